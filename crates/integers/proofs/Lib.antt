@@ -1,0 +1,9 @@
+-- Laws that belong to no one function. Other crates cite them as Rattle.integers.proofs.NAME.
+pub mod Parts
+pub mod Sizes
+pub mod Signed
+pub mod Rounding
+pub mod Bytes
+pub mod Folding
+pub mod Ranges
+pub mod BenchCases

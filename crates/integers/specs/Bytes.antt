@@ -1,0 +1,24 @@
+-- The values of bytes (01, Layout by identifier): the most significant byte comes first, readings are two's complement.
+use Prim.Native.Nat.{ℕ, _+_, _*_, _^_, _<_}
+use mathlib.Core.Bool.{cond}
+use mathlib.Core.List.{List, [], _∷_}
+use lib.Dec.{ltb}
+use lib.IntN.{ℤ, pos, _-ℤ_}
+use lib.ListN.{length, getD}
+
+-- every element is a byte
+pub record AllBytes (bs : List ℕ) : Type 0 where
+  pub each : (i : ℕ) → getD bs i 0 < 256
+
+-- the value of bytes as an unsigned number
+unfoldable pub bigEndian : List ℕ → ℕ
+bigEndian [] = 0
+bigEndian (b ∷ bs) = b * 2 ^ (8 * length bs) + bigEndian bs
+
+-- the number that n stands for in two's complement of that many bits, for an n below 2 ^ width: n in the lower half, n - 2 ^ width in the upper
+unfoldable pub twosComplement : ℕ → ℕ → ℤ
+twosComplement width n = cond (ltb (2 * n) (2 ^ width)) (pos n) (pos n -ℤ pos (2 ^ width))
+
+-- the value of bytes as a two's complement number, whatever their number
+unfoldable pub signedBytes : List ℕ → ℤ
+signedBytes bs = twosComplement (8 * length bs) (bigEndian bs)
