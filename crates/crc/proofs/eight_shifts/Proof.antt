@@ -1,0 +1,43 @@
+-- `crc::eight_shifts` meets its contract. The invariant: the shifts that are left, from here, are the eight of the start.
+-- Assumes nothing.
+use mathlib.Core.Path.{_≡_, refl, sym, ap, _∙_}
+use Prim.Native.Nat.{_+_, _-_, _≤_}
+use native.Mathlib.Omega.{arith}
+use borrow.Author.Needs.{needs}
+use Rattle.crc.specs.Check.{shifts}
+use Rattle.crc.proofs.ByteLoop.{shifts-next, shifts-end}
+use Rattle.crc.proofs.eight_shifts.Statement.{statement}
+use Rattle.crc.proofs.eight_shifts.Tie as tie
+
+abbrev Inv-loop : tie.InvT-loop
+Inv-loop c x₀ count₀ x count = (count ≤ 8) × (shifts 32 0x04C11DB7 (8 - count) x ≡ shifts 32 0x04C11DB7 8 x₀)
+
+abbrev μ-loop : tie.MeasureT-loop
+μ-loop c x₀ count₀ x count = 8 - count
+
+loop-holds : tie.Need-loop-holds Inv-loop μ-loop
+loop-holds c = (omega arith, refl)
+
+one-shift-requires : tie.Need-one-shift-requires Inv-loop μ-loop
+one-shift-requires c κs = search needs
+
+add-count : tie.Need-add-count Inv-loop μ-loop
+add-count c = omega arith
+
+loop-less : tie.Need-loop-less Inv-loop μ-loop
+loop-less c = omega arith
+
+loop-again : tie.Need-loop-again Inv-loop μ-loop
+loop-again c =
+    let l = c .before .before .loop in (
+      omega arith,
+      ap (shifts 32 0x04C11DB7 (8 - (l .count + 1))) (c .one-shift .ensures) ∙ sym (shifts-next 32 0x04C11DB7 (l .x) (l .count) (c .before .loop-test .taken)) ∙ l .inv .1,
+    )
+
+returns : tie.Need-returns Inv-loop μ-loop
+returns c =
+    let l = c .before .loop in
+    sym (shifts-end 32 0x04C11DB7 (l .x) (l .count) (c .loop-test .left)) ∙ l .inv .1
+
+pub eight-shifts-spec : {M : Type 1} → statement M
+eight-shifts-spec = tie.close (tie.spec Inv-loop μ-loop loop-holds one-shift-requires add-count loop-less loop-again returns)
