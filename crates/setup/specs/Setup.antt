@@ -1,0 +1,70 @@
+-- 01, The setup line: a setup's values; and 'What is turned down': 4 to 9 of a setup given as values.
+use Prim.Native.Nat.{ℕ}
+use mathlib.Core.Bool.{Bool, true, false, not, _&&_, _||_, cond}
+use mathlib.Core.List.{List, [], _∷_}
+use lib.Dec.{eqb, ltb}
+use lib.ListN.{getD, replicate}
+use Rattle.setup.specs.Layout.{layoutOf, groupsCarried, lengthIn}
+use Rattle.setup.specs.declared.Found.{Found}
+use Rattle.setup.specs.declared.Found.the-variants.{Listed, Unlisted}
+use Rattle.setup.specs.declared.Setup.{Setup}
+use Rattle.setup.specs.declared.Judgement.{Judgement}
+use Rattle.setup.specs.declared.Judgement.the-variants.{Accepted, Refused}
+
+-- a reason to turn something down, whether it applies, and 01's number for it
+pub record Rule : Type 0 where
+  pub applies : Bool
+  pub number : ℕ
+
+abbrev pub rule : ℕ → Bool → Rule
+rule n b = record { applies = b; number = n }
+
+-- the answer by rules in checking order: refused by the number of the first that applies, accepted if none does
+abbrev pub firstOf : List Rule → Judgement
+firstOf [] = Accepted
+firstOf (r ∷ rs) = cond (r .applies) (Refused (r .number)) (firstOf rs)
+
+-- 4: the rates that there are; 0 is external trigger
+abbrev pub rateListed : ℕ → Bool
+rateListed r = eqb r 0 || eqb r 125 || eqb r 250 || eqb r 500 || eqb r 1000 || eqb r 2000
+
+-- 5: the identifier is in the table
+abbrev pub isListed : Found → Bool
+isListed (Listed l) = true
+isListed Unlisted = false
+
+-- 7, 8: one of the three groups' numbers is above the limit
+abbrev pub anyAbove : ℕ → List ℕ → Bool
+anyAbove limit l = ltb limit (getD l 0 0) || ltb limit (getD l 1 0) || ltb limit (getD l 2 0)
+
+-- 9: a group that isn't carried has a unit or a shift other than 0
+abbrev pub strayGroup : Bool → ℕ → ℕ → Bool
+strayGroup carried unit shift = not carried && (not (eqb unit 0) || not (eqb shift 0))
+
+abbrev pub stray : List Bool → List ℕ → List ℕ → Bool
+stray carried units shifts =
+    strayGroup (getD carried 0 false) (getD units 0 0) (getD shifts 0 0) ||
+    strayGroup (getD carried 1 false) (getD units 1 0) (getD shifts 1 0) ||
+    strayGroup (getD carried 2 false) (getD units 2 0) (getD shifts 2 0)
+
+-- the rules for a setup given as values
+unfoldable pub setupRules : Setup → List Rule
+setupRules s =
+    rule 4 (not (rateListed (s .rate))) ∷
+    rule 5 (not (isListed (layoutOf (s .identifier)))) ∷
+    rule 6 (ltb 1 (s .termination)) ∷
+    rule 7 (anyAbove 3 (s .units)) ∷
+    rule 8 (anyAbove 31 (s .shifts)) ∷
+    rule 9 (stray (groupsCarried (s .identifier)) (s .units) (s .shifts)) ∷
+    []
+
+unfoldable pub judged : Setup → Judgement
+judged s = firstOf (setupRules s)
+
+-- a setup of zeros
+abbrev pub zeroSetup : Setup
+zeroSetup = record { rate = 0; identifier = 0; termination = 0; units = replicate 3 0; shifts = replicate 3 0 }
+
+-- the length L of a datagram of a setup, 0 where the identifier isn't in the table
+unfoldable pub lengthOf : Setup → ℕ
+lengthOf s = lengthIn (layoutOf (s .identifier)) (s .termination)
