@@ -1,7 +1,6 @@
 // The setup of a sensor: its values, the layout of its datagrams and the line that writes it down (01, The setup line, Layout by identifier).
 ghost use mathlib.Core.Path.{_≡_};
 ghost use mathlib.Core.Bool.{cond, true};
-ghost use mathlib.Core.List.{[]};
 ghost use Prim.Native.Nat.{_+_, _≤_, _<_};
 ghost use lib.ListN.{length, drop};
 ghost use Rattle.setup.specs.Layout.{layoutOf, groupsCarried};
