@@ -1,0 +1,7 @@
+-- Laws of what stands in a datagram.
+pub mod FieldPlaces
+pub mod FieldBytes
+pub mod FieldRanges
+pub mod Acceptance
+pub mod Written
+pub mod Examples
