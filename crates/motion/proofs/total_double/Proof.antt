@@ -1,0 +1,49 @@
+-- `motion::total_double` meets its contract. Assumes nothing.
+use Prim.Native.Nat.{_^_}
+use mathlib.Core.Path.{_≡_, sym, _∙_}
+use native.Mathlib.Omega.{arith}
+use lib.Ieee.{ofBits}
+use mir.Syntax.{w64}
+use mir.Val.{SFits}
+use mir.ValLaws.{toZ-ofZ}
+use Rattle.integers.specs.Ranges.{within}
+use Rattle.integers.proofs.Ranges.{within-true}
+use Rattle.integers.proofs.Signed.{passed}
+use Rattle.motion.specs.Totals.{totalDouble}
+use Rattle.motion.proofs.Doubles.{shift-small}
+use borrow.Author.Needs.{needs}
+use Rattle.motion.proofs.total_double.Statement.{statement}
+use Rattle.motion.proofs.total_double.Tie as tie
+
+fits : (c : tie.After-struct-told) → SFits w64 (c .before .args .axis .total)
+fits c = record { sfits = omega arith }
+
+told : (c : tie.After-is-within) → c .is-within .result ≡ within (2 ^ 53) (c .before .before .before .args .axis .total)
+told c = passed w64 (within (2 ^ 53)) (c .before .before .before .args .axis .total) (fits (c .before .before)) (c .is-within .ensures)
+
+known-shift-requires : tie.Need-known-shift-requires
+known-shift-requires c κs = search needs
+
+is-within-requires : tie.Need-is-within-requires
+is-within-requires c κs = search needs
+
+steps-double-requires : tie.Need-steps-double-requires
+steps-double-requires c κs =
+    let s = c .before .before in
+    rw (toZ-ofZ w64 (s .before .before .args .axis .total) (fits (s .before)), s .known-shift .ensures)
+    (within-true (2 ^ 53) (s .before .before .args .axis .total) (sym (told (c .before)) ∙ c .if1 .taken), shift-small (s .before .before .args .shift))
+
+returns : tie.Need-returns
+unfolding totalDouble
+returns c =
+    let s = c .before .before .before in
+    rw (← told (c .before .before), c .before .if1 .taken, c .steps-double .ensures, s .known-shift .ensures, toZ-ofZ w64 (s .before .before .args .axis .total) (fits (s .before)))
+
+returns-2 : tie.Need-returns-2
+unfolding totalDouble ofBits
+returns-2 c = rw (← told (c .before), c .if1 .left)
+
+pub total-double-spec : {M : Type 1} → statement M
+total-double-spec =
+    tie.close
+    (tie.spec known-shift-requires is-within-requires steps-double-requires returns returns-2)

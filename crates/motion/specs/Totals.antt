@@ -1,0 +1,172 @@
+-- 01, Totals: the total of an axis over the datagrams handed out, and what demand 3 says of it.
+use Prim.Native.Nat.{ℕ, _-_, _*_, _^_, _<_}
+use mathlib.Core.Bool.{Bool, true, false, _&&_, cond}
+use mathlib.Core.List.{List, [], _∷_}
+use mathlib.Core.Path.{_≡_}
+use lib.Dec.{eqb}
+use lib.Ieee.{Float}
+use lib.IntN.{ℤ, pos, natAbs, _+ℤ_, _-ℤ_, _*ℤ_}
+use lib.ListN.{length, take, getD}
+use Rattle.integers.specs.Rounding.{floor}
+use Rattle.integers.specs.Folding.{fold}
+use Rattle.integers.specs.Ranges.{within}
+use Rattle.setup.specs.Layout.{groupsCarried}
+use Rattle.setup.specs.declared.Setup.{Setup}
+use Rattle.motion.specs.Status.{fit}
+use Rattle.motion.specs.Doubles.{quotient, plusZero, knownShift, oneOf}
+use Rattle.motion.specs.declared.Axis.{Axis}
+use Rattle.motion.specs.declared.GroupAxes.{GroupAxes}
+use Rattle.motion.specs.declared.Axes.{Axes}
+use Rattle.motion.specs.declared.Total.{Total}
+use Rattle.motion.specs.declared.GroupTotals.{GroupTotals}
+use Rattle.motion.specs.declared.Totals.{Totals}
+use Rattle.motion.specs.declared.GroupDoubles.{GroupDoubles}
+use Rattle.motion.specs.declared.TotalDoubles.{TotalDoubles}
+
+-- ---- one axis
+
+-- one datagram as an axis sees it: its group's status byte judged for the axis, and its reading
+pub record Sighting : Type 0 where
+  pub fit : Bool
+  pub reading : ℤ
+
+-- the difference of two readings, taken modulo 2 ^ 24 into -8388608 .. 8388607
+unfoldable pub difference : ℤ → ℤ → ℤ
+difference new old = fold (new -ℤ old)
+
+-- the first fit datagram makes the total 0, each later fit one adds the difference between its reading and the last fit reading
+unfoldable pub fitStep : Axis → ℤ → Axis
+fitStep a r = record { begun = true; last = r; total = cond (a .begun) (a .total +ℤ difference r (a .last)) (pos 0) }
+
+-- unfit ones alter neither
+unfoldable pub axisStep : Axis → Sighting → Axis
+axisStep a d = cond (d .fit) (fitStep a (d .reading)) a
+
+-- the same where the axis keeps a total; else it stays as it is, and so does one whose total is beyond 2 ^ 53 in size, which no session has
+unfoldable pub keptStep : Bool → Axis → Sighting → Axis
+keptStep kept a d = cond (kept && within (2 ^ 53) (a .total)) (axisStep a d) a
+
+-- ---- the nine axes; groups are gyro 0, accelerometer 1, inclinometer 2, and axes X 0, Y 1, Z 2
+
+-- a total is kept for each axis of a carried group set to integrated
+abbrev pub keeps : Setup → ℕ → Bool
+keeps s group = getD (groupsCarried (s .identifier)) group false && eqb (getD (s .units) group 0) 3
+
+unfoldable pub groupsKept : Setup → List Bool
+groupsKept s = keeps s 0 ∷ keeps s 1 ∷ keeps s 2 ∷ []
+
+-- what an axis of a group sees of the group's status byte and readings
+abbrev pub seenIn : ℕ → List ℤ → ℕ → Sighting
+seenIn status readings axis = record { fit = fit status axis; reading = getD readings axis (pos 0) }
+
+abbrev pub seen : List (List ℤ) → List ℕ → ℕ → ℕ → Sighting
+seen readings statuses group axis = seenIn (getD statuses group 0) (getD readings group []) axis
+
+unfoldable pub groupStep : Bool → GroupAxes → List ℤ → ℕ → GroupAxes
+groupStep kept g readings status =
+    record {
+      x = keptStep kept (g .x) (seenIn status readings 0);
+      y = keptStep kept (g .y) (seenIn status readings 1);
+      z = keptStep kept (g .z) (seenIn status readings 2);
+    }
+
+unfoldable pub stepped : Setup → Axes → List (List ℤ) → List ℕ → Axes
+stepped s a readings statuses =
+    record {
+      gyro = groupStep (keeps s 0) (a .gyro) (getD readings 0 []) (getD statuses 0 0);
+      accelerometer = groupStep (keeps s 1) (a .accelerometer) (getD readings 1 []) (getD statuses 1 0);
+      inclinometer = groupStep (keeps s 2) (a .inclinometer) (getD readings 2 []) (getD statuses 2 0);
+    }
+
+-- the axis of a group
+abbrev pub axisIn : GroupAxes → ℕ → Axis
+axisIn g axis = oneOf (g .x) (g .y) (g .z) axis
+
+abbrev pub axisAt : Axes → ℕ → ℕ → Axis
+axisAt a group axis = axisIn (oneOf (a .gyro) (a .accelerometer) (a .inclinometer) group) axis
+
+-- ---- what comes back
+
+abbrev pub totalOf : Axis → Total
+totalOf a = record { begun = a .begun; steps = a .total }
+
+abbrev pub groupTotals : GroupAxes → GroupTotals
+groupTotals g = record { x = totalOf (g .x); y = totalOf (g .y); z = totalOf (g .z) }
+
+unfoldable pub totalsOf : Axes → Totals
+totalsOf a = record { gyro = groupTotals (a .gyro); accelerometer = groupTotals (a .accelerometer); inclinometer = groupTotals (a .inclinometer) }
+
+-- total / 2 ^ shift; +0 for a total beyond 2 ^ 53 in size
+unfoldable pub totalDouble : Axis → ℕ → Float
+totalDouble a shift = cond (within (2 ^ 53) (a .total)) (quotient (a .total) (knownShift shift)) plusZero
+
+unfoldable pub groupDoubles : GroupAxes → ℕ → GroupDoubles
+groupDoubles g shift = record { x = totalDouble (g .x) shift; y = totalDouble (g .y) shift; z = totalDouble (g .z) shift }
+
+abbrev pub doubleOf : Setup → Axes → ℕ → ℕ → Float
+doubleOf s a group axis = totalDouble (axisAt a group axis) (getD (s .shifts) group 0)
+
+unfoldable pub totalDoubles : Setup → Axes → TotalDoubles
+totalDoubles s a =
+    record {
+      «gyro_x» = doubleOf s a 0 0;
+      «gyro_y» = doubleOf s a 0 1;
+      «gyro_z» = doubleOf s a 0 2;
+      «accelerometer_x» = doubleOf s a 1 0;
+      «accelerometer_y» = doubleOf s a 1 1;
+      «accelerometer_z» = doubleOf s a 1 2;
+      «inclinometer_x» = doubleOf s a 2 0;
+      «inclinometer_y» = doubleOf s a 2 1;
+      «inclinometer_z» = doubleOf s a 2 2;
+    }
+
+-- the total and the double of an axis of a group
+abbrev pub totalIn : GroupTotals → ℕ → Total
+totalIn g axis = oneOf (g .x) (g .y) (g .z) axis
+
+abbrev pub totalAt : Totals → ℕ → ℕ → Total
+totalAt t group axis = totalIn (oneOf (t .gyro) (t .accelerometer) (t .inclinometer) group) axis
+
+abbrev pub doubleAt : TotalDoubles → ℕ → ℕ → Float
+doubleAt t group axis =
+    oneOf (oneOf (t .«gyro_x») (t .«gyro_y») (t .«gyro_z») axis) (oneOf (t .«accelerometer_x») (t .«accelerometer_y») (t .«accelerometer_z») axis)
+    (oneOf (t .«inclinometer_x») (t .«inclinometer_y») (t .«inclinometer_z») axis)
+    group
+
+-- ---- demand 3 of one axis, over the datagrams that it sees
+
+-- the axis after them
+unfoldable pub after : Axis → List Sighting → Axis
+after a [] = a
+after a (d ∷ ds) = after (axisStep a d) ds
+
+-- the readings of the fit ones, in order
+unfoldable pub fitReadings : List Sighting → List ℤ
+fitReadings [] = []
+fitReadings (d ∷ ds) = cond (d .fit) (d .reading ∷ fitReadings ds) (fitReadings ds)
+
+-- how many fit ones stand before a place, and what stands beyond the last
+unfoldable pub fitBefore : List Sighting → ℕ → ℕ
+fitBefore ds i = length (fitReadings (take i ds))
+
+abbrev pub none : Sighting
+none = record { fit = false; reading = pos 0 }
+
+-- the reading of the true value t in steps of d: t / d rounded down and folded
+unfoldable pub readingOf : ℕ → ℤ → ℤ
+readingOf d t = fold (floor t d)
+
+-- neighbours differ by less than (2 ^ 23 - 1) * d
+unfoldable pub CloseFrom : ℕ → ℤ → List ℤ → Type 0
+CloseFrom d t [] = Unit {0}
+CloseFrom d t (u ∷ us) = (natAbs (u -ℤ t) < (2 ^ 23 - 1) * d) × CloseFrom d u us
+
+unfoldable pub Close : ℕ → List ℤ → Type 0
+Close d [] = Unit {0}
+Close d (t ∷ ts) = CloseFrom d t ts
+
+-- the axis stands for the change from the true value t₀ to t: its total is the difference of the two rounded down, and less than one step from the change
+pub record Stands (d : ℕ) (t₀ t : ℤ) (a : Axis) : Type 0 where
+  pub begun : a .begun ≡ true
+  pub exact : a .total ≡ floor t d -ℤ floor t₀ d
+  pub near : natAbs (a .total *ℤ pos d -ℤ (t -ℤ t₀)) < d
