@@ -1,0 +1,97 @@
+-- The answer and the buffer of a line, case by case in checking order.
+use mathlib.Core.Path.{_≡_, refl, _∙_}
+use mathlib.Core.Bool.{Bool, true, false, not, _||_, cond}
+use mathlib.Core.List.{List, [], _∷_, _++_}
+use Prim.Native.Nat.{ℕ, _+_, _≤_, _<_}
+use native.Mathlib.Nat.{zero-add}
+use native.Mathlib.Omega.{arith}
+use borrow.Author.Tests.{lt-ltb, le-ltb}
+use lib.Dec.{eqb}
+use lib.IntN.{ℤ}
+use lib.ListN.{length, take, drop}
+use lib.Seq.{sets, sets-eq, paste, take-length, take-at}
+use Rattle.setup.specs.Setup.{Rule, firstOf, setupRules, judged}
+use Rattle.setup.specs.declared.Setup.{Setup}
+use Rattle.setup.specs.declared.Judgement as judgement
+use Rattle.motion.specs.declared.Gap.{Gap}
+use Rattle.motion.specs.declared.Totals.{Totals}
+use Rattle.text.specs.Putting.{Put}
+use Rattle.text.specs.TextLine.{lineText, readingsFit, totalsWithin, outside, lineRules, lineJudged, lineAnswer, lineBuffer, roomAnswer, roomBuffer}
+use Rattle.text.specs.declared.Written.{Written}
+use Rattle.text.specs.declared.Written.the-variants.{Line, Refused}
+
+-- ---- a text and a buffer
+
+-- a text that is put at the front, and one that is copied there whole
+pub put-front : (b text : List ℕ) → length text ≤ length b → sets b 0 text ≡ text ++ drop (length text) b
+put-front b text h = sets-eq text b 0 (omega arith) ∙ rw (zero-add (length text))
+
+-- what stands there then is the text
+pub put-taken : {b text b1 : List ℕ} {n : ℕ} → Put b 0 text b1 n → length text ≤ length b → take n b1 ≡ text
+put-taken {b} {text} {b1} {n} p h =
+    rw (p .bytes, put-front b text h) (take-at text (drop (length text) b) n (omega (arith, p .place)))
+
+pub copied-front : (b text : List ℕ) (i : ℕ) → length text ≡ i → paste b 0 text i ≡ text ++ drop (length text) b
+copied-front b text i e = rw (← e, take-length text, zero-add (length text))
+
+module _ (b text : List ℕ) where
+  pub room-short : length b < length text → (Refused 14 ≡ roomAnswer b text) × (b ≡ roomBuffer b text)
+  unfolding roomAnswer roomBuffer
+  room-short h = rw (lt-ltb (length b) (length text) h) (refl, refl)
+
+  pub room-enough : length text ≤ length b → (Line (length text) ≡ roomAnswer b text) × (text ++ drop (length text) b ≡ roomBuffer b text)
+  unfolding roomAnswer roomBuffer
+  room-enough h = rw (le-ltb (length b) (length text) h) (refl, refl)
+
+-- ---- rules in two lists, the one after the other
+
+pub first-accepted : (rs ss : List Rule) → firstOf rs ≡ judgement.the-variants.Accepted → firstOf (rs ++ ss) ≡ firstOf ss
+first-accepted [] ss e = refl
+first-accepted (r ∷ rs) ss e = by (r .applies) e (first-accepted rs ss)
+  where
+    by : (t : Bool) → cond t (judgement.the-variants.Refused (r .number)) (firstOf rs) ≡ judgement.the-variants.Accepted → (firstOf rs ≡ judgement.the-variants.Accepted → firstOf (rs ++ ss) ≡ firstOf ss) → cond t (judgement.the-variants.Refused (r .number)) (firstOf (rs ++ ss)) ≡ firstOf ss
+    by true e next = let z : _≡_ {A = ℕ} 0 1 = cc in absurd (omega arith)
+    by false e next = next e
+
+pub first-refused : (rs ss : List Rule) {n : ℕ} → firstOf rs ≡ judgement.the-variants.Refused n → firstOf (rs ++ ss) ≡ judgement.the-variants.Refused n
+first-refused [] ss e = let z : _≡_ {A = ℕ} 0 1 = cc in absurd (omega arith)
+first-refused (r ∷ rs) ss {n} e = by (r .applies) e (first-refused rs ss)
+  where
+    by : (t : Bool) → cond t (judgement.the-variants.Refused (r .number)) (firstOf rs) ≡ judgement.the-variants.Refused n → (firstOf rs ≡ judgement.the-variants.Refused n → firstOf (rs ++ ss) ≡ judgement.the-variants.Refused n) → cond t (judgement.the-variants.Refused (r .number)) (firstOf (rs ++ ss)) ≡ judgement.the-variants.Refused n
+    by true e next = e
+    by false e next = next e
+
+-- ---- the line
+
+inside-by : (r t z : Bool) → (not r || not t || z) ≡ false → (r ≡ true) × (t ≡ true) × (z ≡ false)
+inside-by true true z e = (refl, refl, e)
+inside-by true false z e = let n : _≡_ {A = ℕ} 0 1 = cc in absurd (omega arith)
+inside-by false t z e = let n : _≡_ {A = ℕ} 0 1 = cc in absurd (omega arith)
+
+-- what 13 doesn't refuse
+pub inside : (ordinal : ℕ) (readings : List (List ℤ)) (totals : Totals) → outside ordinal readings totals ≡ false
+    → (readingsFit readings ≡ true) × (totalsWithin totals ≡ true) × (eqb ordinal 0 ≡ false)
+unfolding outside
+inside ordinal readings totals e = inside-by (readingsFit readings) (totalsWithin totals) (eqb ordinal 0) e
+
+module _ (b : List ℕ) (setup : Setup) (ordinal counter latency : ℕ) (gap : Gap) (readings : List (List ℤ)) (statuses : List ℕ) (totals : Totals) where
+  abbrev text : List ℕ
+  text = lineText setup ordinal counter latency gap readings statuses totals
+
+  abbrev answer : Written
+  answer = lineAnswer b setup ordinal counter latency gap readings statuses totals
+
+  abbrev buffer : List ℕ
+  buffer = lineBuffer b setup ordinal counter latency gap readings statuses totals
+
+  pub setup-refused : {n : ℕ} → judged setup ≡ judgement.the-variants.Refused n → (Refused n ≡ answer) × (b ≡ buffer)
+  unfolding lineAnswer lineBuffer lineJudged lineRules judged
+  setup-refused e = rw (first-refused (setupRules setup) _ e) (refl, refl)
+
+  pub values-refused : judged setup ≡ judgement.the-variants.Accepted → outside ordinal readings totals ≡ true → (Refused 13 ≡ answer) × (b ≡ buffer)
+  unfolding lineAnswer lineBuffer lineJudged lineRules judged
+  values-refused e h = rw (first-accepted (setupRules setup) _ e, h) (refl, refl)
+
+  pub room-left : judged setup ≡ judgement.the-variants.Accepted → outside ordinal readings totals ≡ false → (roomAnswer b text ≡ answer) × (roomBuffer b text ≡ buffer)
+  unfolding lineAnswer lineBuffer lineJudged lineRules judged roomAnswer roomBuffer
+  room-left e h = rw (first-accepted (setupRules setup) _ e, h) (refl, refl)

@@ -1,0 +1,134 @@
+use borrow.Author.Needs.{needs}
+use Prim.Native.Nat.{ℕ, _≤_}
+use native.Mathlib.Omega.{arith}
+use mathlib.Core.List.{List, [], _∷_}
+use lib.ListN.{length, getD}
+use mir.Syntax.{w8}
+use mir.Val.{Fits}
+use denote.Laws.{Is}
+use denote.Enum.Declared.{row}
+use denote.Enum.Laws.{val}
+use Rattle.motion.proofs.Gap as gap
+use Rattle.motion.proofs.Gap.Laws as laws
+use Rattle.motion.specs.declared.Gap.{Gap}
+use Rattle.motion.specs.declared.Gap.the-variants.{Missed, OffStep}
+use Rattle.text.proofs.Longest.{MissedFits, longest}
+use mathlib.Core.Path.{_≡_, sym, ap, _∙_}
+use native.Mathlib.Nat.{zero-add}
+use Rattle.setup.specs.Setup.{judged}
+use Rattle.setup.specs.declared.Judgement.the-variants.{Accepted}
+use Rattle.text.specs.TextLine.{lineText, lineAnswer, lineBuffer, roomAnswer, roomBuffer, longestLine}
+use Rattle.text.specs.declared.Written.{Written}
+use Rattle.text.specs.declared.Written.the-variants.{Line}
+use Rattle.text.proofs.Answers.{put-front, room-enough, inside, setup-refused, values-refused, room-left}
+use Rattle.text.proofs.write_line.Statement.{statement}
+use Rattle.text.proofs.write_line.Tie as tie
+
+-- the line, the answer and the buffer at exit
+abbrev line : tie.Start → List ℕ
+line s = lineText (s .args .setup) (s .args .ordinal) (s .args .counter) (s .args .latency) (s .args .gap) (s .args .readings) (s .args .statuses) (s .args .totals)
+
+abbrev answer : tie.Start → Written
+answer s = lineAnswer (s .args .buffer .now) (s .args .setup) (s .args .ordinal) (s .args .counter) (s .args .latency) (s .args .gap) (s .args .readings) (s .args .statuses) (s .args .totals)
+
+abbrev after : tie.Start → List ℕ
+after s = lineBuffer (s .args .buffer .now) (s .args .setup) (s .args .ordinal) (s .args .counter) (s .args .latency) (s .args .gap) (s .args .readings) (s .args .statuses) (s .args .totals)
+
+-- each number is one of its type
+by : (g : Gap) → Is (row gap.the-type) g (val gap.the-type laws.the-laws g ∷ []) → MissedFits g
+by (Missed d) p = omega (arith, p)
+by OffStep p = tt
+
+gap-fits : (c : tie.Start) → MissedFits (c .args .gap)
+gap-fits c = by (c .args .gap) (c .good .1 .1 .1 .1 .1 .0)
+
+status-fits : (c : tie.Start) (i : ℕ) → Fits w8 (getD (c .args .statuses) i 0)
+status-fits c i = search needs
+
+-- only 14 is left to refuse the line
+accepted : (c : tie.After-outside) → judged (c .before .before .before .before .before .args .setup) ≡ Accepted
+accepted c = sym (c .before .before .before .judge .ensures) ∙ c .before .enum-told .given .1
+
+left : (c : tie.Else1) → (roomAnswer (c .before .before .before .before .before .before .args .buffer .now) (line (c .before .before .before .before .before .before)) ≡ answer (c .before .before .before .before .before .before)) × (roomBuffer (c .before .before .before .before .before .before .args .buffer .now) (line (c .before .before .before .before .before .before)) ≡ after (c .before .before .before .before .before .before))
+left c =
+    let a = c .before .before .before .before .before .before .args in
+    room-left (a .buffer .now) (a .setup) (a .ordinal) (a .counter) (a .latency) (a .gap) (a .readings) (a .statuses) (a .totals) (accepted (c .before)) (sym (c .before .outside .ensures) ∙ c .if1 .left)
+
+short : (c : tie.Else1) → length (line (c .before .before .before .before .before .before)) ≤ longestLine
+short c =
+    let s = c .before .before .before .before .before .before in
+    let a = s .args in
+    let h = inside (a .ordinal) (a .readings) (a .totals) (sym (c .before .outside .ensures) ∙ c .if1 .left) in
+    longest (a .setup) (a .ordinal) (a .counter) (a .latency) (a .gap) (a .readings) (a .statuses) (a .totals)
+    (omega arith) (omega arith) (omega arith) (gap-fits s) (λ i. status-fits s i .fits) (h .0) (h .1)
+
+judge-requires : tie.Need-judge-requires
+judge-requires c κs = search needs
+
+enum-known-judgement : tie.Need-enum-known-judgement
+enum-known-judgement c = search needs
+
+returns : tie.Need-returns
+returns c =
+    let a = c .before .before .before .before .before .args in
+    setup-refused (a .buffer .now) (a .setup) (a .ordinal) (a .counter) (a .latency) (a .gap) (a .readings) (a .statuses) (a .totals) (sym (c .before .before .before .judge .ensures) ∙ c .before .judgement .given .1)
+
+enum-told : tie.Need-enum-told
+enum-told c = search needs
+
+outside-requires : tie.Need-outside-requires
+outside-requires c κs = search needs
+
+returns-2 : tie.Need-returns-2
+returns-2 c =
+    let a = c .before .before .before .before .before .before .args in
+    values-refused (a .buffer .now) (a .setup) (a .ordinal) (a .counter) (a .latency) (a .gap) (a .readings) (a .statuses) (a .totals) (accepted (c .before)) (sym (c .before .outside .ensures) ∙ c .if1 .taken)
+
+longest-line-requires : tie.Need-longest-line-requires
+longest-line-requires c κs = search needs
+
+write-apart-requires : tie.Need-write-apart-requires
+write-apart-requires c κs = short (c .before .before .before)
+
+same-length : tie.Need-same-length
+same-length c = search needs
+
+returns-3 : tie.Need-returns-3
+returns-3 c =
+    let p = c .before .before .write-apart .ensures in
+    let w = left (c .before .before .before .before .before .before) in
+    (p .0 ∙ w .0, p .1 ∙ w .1)
+
+put-line-requires : tie.Need-put-line-requires
+put-line-requires c κs = omega (arith, short (c .before .before .before), c .before .before .longest-line .ensures, c .before .if2 .left)
+
+same-length-2 : tie.Need-same-length-2
+same-length-2 c = search needs
+
+returns-4 : tie.Need-returns-4
+returns-4 c =
+    let s = c .before .before .before .before .before .before .before .before .before .before .before .before in
+    let b = s .args .buffer .now in
+    let p = c .before .before .put-line .ensures in
+    let w = left (c .before .before .before .before .before .before) in
+    let h : length (line s) ≤ length b = omega (arith, short (c .before .before .before .before .before .before), c .before .before .before .before .before .longest-line .ensures, c .before .before .before .before .if2 .left) in
+    let e = room-enough b (line s) h in
+    (ap Line (p .place ∙ zero-add (length (line s))) ∙ e .0 ∙ w .0, p .bytes ∙ put-front b (line s) h ∙ e .1 ∙ w .1)
+
+pub write-line-spec : {M : Type 1} → statement M
+write-line-spec =
+    tie.close
+    (tie.spec
+    judge-requires
+    enum-known-judgement
+    returns
+    enum-told
+    outside-requires
+    returns-2
+    longest-line-requires
+    write-apart-requires
+    same-length
+    returns-3
+    put-line-requires
+    same-length-2
+    returns-4)
