@@ -1,0 +1,9 @@
+pub mod ScanLaws
+pub mod CallsLaws
+pub mod StreamLaws
+pub mod AmongLaws
+pub mod RunLaws
+pub mod FrontLaws
+pub mod PlaceLaws
+pub mod PictureLaws
+pub mod Example

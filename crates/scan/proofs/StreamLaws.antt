@@ -1,0 +1,184 @@
+-- Laws of the stream that a list of pieces makes, and of the pieces' reports.
+-- Assumes nothing.
+use Prim.Native.Nat.{ℕ, _+_, _-_, _≤_, _<_}
+use mathlib.Core.Path.{_≡_, refl, ap, _∙_}
+use mathlib.Core.List.{List, [], _∷_, _++_}
+use native.Mathlib.Nat.{add-zero}
+use native.Mathlib.Decide.{decLe}
+use native.Mathlib.Omega.{arith}
+use borrow.Author.Tests.{le-leb, lt-leb}
+use lib.ListN.{length, drop, length-append, length-drop}
+use Rattle.scan.specs.Calls.{Limits, Outcome, whole, turnedDown, Report, taking-more}
+use Rattle.scan.specs.Stream.{outcome, kept, counted, joined, reports, stream}
+
+module _ (L : Limits) (n k : ℕ) where
+  pub outcome-over : L .piece < k → outcome L n k ≡ turnedDown 11
+  unfolding outcome
+  outcome-over h = rw (lt-leb k (L .piece) h)
+
+  pub outcome-past : k ≤ L .piece → L .session < n + k → outcome L n k ≡ turnedDown 12
+  unfolding outcome
+  outcome-past h l = rw (le-leb k (L .piece) h, lt-leb (n + k) (L .session) l)
+
+  pub outcome-whole : k ≤ L .piece → n + k ≤ L .session → outcome L n k ≡ whole
+  unfolding outcome
+  outcome-whole h l = rw (le-leb k (L .piece) h, le-leb (n + k) (L .session) l)
+
+  -- one of the three it is
+  pub data Judged : Type 0 where
+    over : L .piece < k → outcome L n k ≡ turnedDown 11 → Judged
+    past : k ≤ L .piece → L .session < n + k → outcome L n k ≡ turnedDown 12 → Judged
+    taken : k ≤ L .piece → n + k ≤ L .session → outcome L n k ≡ whole → Judged
+
+  pub judged : Judged
+  judged = go (decLe k (L .piece)) (decLe (n + k) (L .session))
+    where
+      go : Dec (k ≤ L .piece) → Dec (n + k ≤ L .session) → Judged
+      go (no h) l = let g : L .piece < k = omega arith in over g (outcome-over g)
+      go (yes h) (no l) = let g : L .session < n + k = omega arith in past h g (outcome-past h g)
+      go (yes h) (yes l) = taken h l (outcome-whole h l)
+
+  pub outcome-not-ten : outcome L n k ≡ turnedDown 10 → ⊥
+  outcome-not-ten e = by judged
+    where
+      other : {m : ℕ} → (m ≡ 10 → ⊥) → outcome L n k ≡ turnedDown m → ⊥
+      other h q = h (cc)
+
+      by : Judged → ⊥
+      by (over a q) = other (λ z. omega arith) q
+      by (past a b q) = other (λ z. omega arith) q
+      by (taken a b q) = let z : _≡_ {A = ℕ} 0 1 = cc in omega arith
+
+module _ (L : Limits) (n : ℕ) (p : List ℕ) (ps : List (List ℕ)) where
+  -- a piece that is turned down is left out
+  pub stream-down : {m : ℕ} → outcome L n (length p) ≡ turnedDown m → stream L n (p ∷ ps) ≡ stream L n ps
+  unfolding stream
+  stream-down e = simp (e, add-zero)
+
+  pub reports-down :
+      {m : ℕ} → outcome L n (length p) ≡ turnedDown m
+      → reports L n (p ∷ ps) ≡ record { outcome = turnedDown m; taken = 0 } ∷ reports L n ps
+  unfolding reports
+  reports-down e = rw (e, add-zero n)
+
+  -- a piece that is taken whole comes first
+  pub stream-whole : outcome L n (length p) ≡ whole → stream L n (p ∷ ps) ≡ p ++ stream L (n + length p) ps
+  unfolding stream
+  stream-whole e = rw e
+
+  pub reports-whole :
+      outcome L n (length p) ≡ whole
+      → reports L n (p ∷ ps) ≡ record { outcome = whole; taken = length p } ∷ reports L (n + length p) ps
+  unfolding reports
+  reports-whole e = rw e
+
+module _ (L : Limits) (n : ℕ) (p : List ℕ) (ps : List (List ℕ)) (small : length p ≤ L .piece) (fits : n + length p ≤ L .session) where
+  -- what is left of such a piece behind k bytes of it
+  module _ (k : ℕ) (less : k ≤ length p) where
+    rest-whole : outcome L (n + k) (length (drop k p)) ≡ whole
+    rest-whole =
+        let l : length (drop k p) ≡ length p - k = length-drop k p in
+        outcome-whole L (n + k) (length (drop k p)) (omega arith) (omega arith)
+
+    back : n + k + length (drop k p) ≡ n + length p
+    back = omega (arith, length-drop k p)
+
+    pub stream-rest : stream L (n + k) (drop k p ∷ ps) ≡ drop k p ++ stream L (n + length p) ps
+    stream-rest = stream-whole L (n + k) (drop k p) ps rest-whole ∙ ap (λ (m : ℕ). drop k p ++ stream L m ps) back
+
+    pub reports-rest :
+        {x : Report} {rs : List Report} → x ∷ rs ≡ reports L (n + k) (drop k p ∷ ps)
+        → taking-more k x ∷ rs ≡ reports L n (p ∷ ps)
+    reports-rest {x} {rs} e =
+        go
+        (e
+        ∙ reports-whole L (n + k) (drop k p) ps rest-whole
+        ∙ ap (λ (j : ℕ). record { outcome = whole; taken = length (drop k p) } ∷ reports L j ps) back)
+      where
+        go :
+            x ∷ rs ≡ record { outcome = whole; taken = length (drop k p) } ∷ reports L (n + length p) ps
+            → taking-more k x ∷ rs ≡ reports L n (p ∷ ps)
+        go f =
+            let g : x ≡ record { outcome = whole; taken = length (drop k p) } = cc in
+            let h : rs ≡ reports L (n + length p) ps = cc in
+            let sum : k + length (drop k p) ≡ length p = omega (arith, back) in
+            rw (g, h, sum, reports-whole L n p ps (outcome-whole L n (length p) small fits))
+
+-- no piece is reported as turned down by 10
+abbrev pub NoTen : List Report → Type 0
+NoTen [] = Unit {0}
+NoTen (r ∷ rs) = (r .outcome ≡ turnedDown 10 → ⊥) × NoTen rs
+
+pub reports-no-ten : (L : Limits) (n : ℕ) (ps : List (List ℕ)) → NoTen (reports L n ps)
+unfolding reports
+reports-no-ten L n [] = tt
+reports-no-ten L n (p ∷ ps) =
+    (outcome-not-ten L n (length p), reports-no-ten L (n + counted (outcome L n (length p)) (length p)) ps)
+
+-- the bytes taken of all pieces are the stream's
+abbrev pub takenOf : List Report → ℕ
+takenOf [] = 0
+takenOf (r ∷ rs) = r .taken + takenOf rs
+
+length-kept : (o : Outcome) (p : List ℕ) → length (kept o p) ≡ counted o (length p)
+length-kept whole p = refl
+length-kept (turnedDown n) p = refl
+
+pub reports-taken : (L : Limits) (n : ℕ) (ps : List (List ℕ)) → takenOf (reports L n ps) ≡ length (stream L n ps)
+unfolding reports stream
+reports-taken L n [] = refl
+reports-taken L n (p ∷ ps) =
+    let o : Outcome = outcome L n (length p) in
+    let v : List ℕ = stream L (n + counted o (length p)) ps in
+    omega (arith, reports-taken L (n + counted o (length p)) ps, length-kept o p, length-append (kept o p) v)
+
+-- A stream stays within a session's bytes
+pub stream-most : (L : Limits) (n : ℕ) (ps : List (List ℕ)) → n ≤ L .session → n + length (stream L n ps) ≤ L .session
+unfolding stream
+stream-most L n [] h = omega arith
+stream-most L n (p ∷ ps) h = go (outcome L n (length p)) (judged L n (length p)) refl (λ (m : ℕ) (l : m ≤ L .session). stream-most L m ps l)
+  where
+    go :
+        (o : Outcome) → Judged L n (length p) → outcome L n (length p) ≡ o
+        → ((m : ℕ) → m ≤ L .session → m + length (stream L m ps) ≤ L .session)
+        → n + length (kept o p ++ stream L (n + counted o (length p)) ps) ≤ L .session
+    go (turnedDown m) j e on = rw (add-zero n) (on n h)
+    go whole (over a q) e on = absurd (let z : _≡_ {A = ℕ} 0 1 = cc in omega arith)
+    go whole (past a b q) e on = absurd (let z : _≡_ {A = ℕ} 0 1 = cc in omega arith)
+    go whole (taken a b q) e on = omega (arith, on (n + length p) b, length-append p (stream L (n + length p) ps))
+
+-- Pieces that keep to the limits are all taken, joined
+abbrev pub Within : ℕ → List (List ℕ) → Type 0
+Within m [] = Unit {0}
+Within m (p ∷ ps) = (length p ≤ m) × Within m ps
+
+pub stream-joined :
+    (L : Limits) (n : ℕ) (ps : List (List ℕ)) → Within (L .piece) ps → n + length (joined ps) ≤ L .session → stream L n ps ≡ joined ps
+unfolding stream
+stream-joined L n [] w h = refl
+stream-joined L n (p ∷ ps) w h =
+    let l = length-append p (joined ps) in
+    stream-whole L n p ps (outcome-whole L n (length p) (w .0) (omega arith))
+    ∙ ap (λ (v : List ℕ). p ++ v) (stream-joined L (n + length p) ps (w .1) (omega arith))
+
+-- Every list of at most a session's bytes is the stream of some list of pieces: its bytes one by one
+abbrev pub singly : List ℕ → List (List ℕ)
+singly [] = []
+singly (b ∷ u) = (b ∷ []) ∷ singly u
+
+singly-within : (m : ℕ) → 1 ≤ m → (u : List ℕ) → Within m (singly u)
+singly-within m h [] = tt
+singly-within m h (b ∷ u) = (omega arith, singly-within m h u)
+
+singly-joined : (u : List ℕ) → joined (singly u) ≡ u
+singly-joined [] = refl
+singly-joined (b ∷ u) = ap (λ (v : List ℕ). b ∷ v) (singly-joined u)
+
+pub every-stream :
+    (L : Limits) → 1 ≤ L .piece → (u : List ℕ) → length u ≤ L .session
+    → (ps : List (List ℕ)) × Within (L .piece) ps × (stream L 0 ps ≡ u)
+every-stream L h u l =
+    let e = singly-joined u in
+    let w = singly-within (L .piece) h u in
+    let k : 0 + length (joined (singly u)) ≤ L .session = rw e (omega arith) in
+    (singly u, w, stream-joined L 0 (singly u) w k ∙ e)

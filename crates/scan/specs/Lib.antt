@@ -1,0 +1,5 @@
+pub mod Scan
+pub mod Front
+pub mod Calls
+pub mod Stream
+pub mod Carry
