@@ -6,10 +6,23 @@
 //     reads VALUES TEXT      the values that a line gives back
 //     check HEX HEX          the check of bytes, with the zero bytes that aren't sent
 //     mpeg2 HEX HEX          CRC-32/MPEG-2 of bytes
+//     accepts A I T HEX      whether (1) or not (0) bytes are an acceptable datagram of identifier I with termination T
+//     decodes I READINGS STATUSES COUNTER LATENCY HEX
+//     fit STATUS XYZ COUNT   which axes a status leaves fit (1), and how many channels it flags
+//     gap RATE FIRST PREVIOUS COUNTER MISSED     the datagrams missed, or `?`
+//     write NUMBER SETUP ORDINAL COUNTER LATENCY MISSED READINGS STATUSES TOTALS ROOM TEXT
+//                            the number that refuses a text line in a buffer of ROOM bytes, or 0 and the line without its end; a total is
+//                            1 or 0, for begun or not, and its value. The whole buffer is compared
 use libc::STDIN_FILENO;
 use libc::STDOUT_FILENO;
+use motion::Datagrams;
+use motion::Gap;
+use motion::GroupTotals;
+use motion::Total;
+use motion::Totals;
 use setup::Judgement;
 use setup::Setup;
+use text::Written;
 ghost use mathlib.Core.Path.{_≡_};
 ghost use Prim.Native.Nat.{_≤_};
 ghost use lib.ListN.{length};
@@ -48,7 +61,7 @@ fn decimal_at(given: &[u8], from: usize) -> u64 {
         if (b < 0x30) | (0x39 < b) {
             return number;
         }
-        number = number % 1000000000000 * 10 + digit_value(b) as u64;
+        number = number % 1000000000000000000 * 10 + digit_value(b) as u64;
         i += 1;
     }
     number
@@ -193,6 +206,239 @@ fn mpeg2_case(given: &[u8]) -> bool {
     crc::crc32_mpeg2(&bytes[..count]) as u64 == hexadecimal_at(given, word_start(given, 1))
 }
 
+// The number at the word k, `-` before a negative one.
+fn signed_at(given: &[u8], k: usize) -> i64 {
+    let at = word_start(given, k);
+    if given.len() <= at {
+        return 0;
+    }
+    if given[at] == 0x2D {
+        return 0 - (decimal_at(given, at + 1) % 9223372036854775808) as i64;
+    }
+    (decimal_at(given, at) % 9223372036854775808) as i64
+}
+
+// A setup of an identifier and a termination.
+fn setup_of(identifier: u8, termination: u16, rate: u16) -> Setup {
+    Setup {
+        rate: rate,
+        identifier: identifier,
+        termination: termination,
+        units: [0; 3],
+        shifts: [0; 3],
+    }
+}
+
+fn accepts_case(given: &[u8]) -> bool {
+    let setup = setup_of((value_at(given, 2) % 256) as u8, value_at(given, 3), 0);
+    let at = word_start(given, 4);
+    let datagram = bytes_of(&given[at..]);
+    let bytes = datagram.bytes;
+    let count = datagram.count;
+    wire::is_acceptable(setup, &bytes[..count]) == (value_at(given, 1) == 1)
+}
+
+fn same_reading(reading: i32, given: &[u8], k: usize) -> bool {
+    reading as i64 == signed_at(given, k)
+}
+
+// Whether a row of readings is what the words from k on say.
+fn same_row(row: [i32; 3], given: &[u8], k: usize) -> bool
+    requires { ⌜ k ≤ 8 ⌝ }
+{
+    same_reading(row[0], given, k)
+        & same_reading(row[1], given, k + 1)
+        & same_reading(row[2], given, k + 2)
+}
+
+fn same_statuses(given: &[u8], statuses: [u8; 3]) -> bool {
+    (statuses[0] as u16 == value_at(given, 11))
+        & (statuses[1] as u16 == value_at(given, 12))
+        & (statuses[2] as u16 == value_at(given, 13))
+}
+
+fn same_contents(given: &[u8], identifier: u8, bytes: &[u8]) -> bool {
+    let grid = wire::readings(identifier, bytes);
+    let statuses = wire::statuses(identifier, bytes);
+    same_row(grid[0], given, 2)
+        & same_row(grid[1], given, 5)
+        & same_row(grid[2], given, 8)
+        & same_statuses(given, statuses)
+        & (wire::counter(identifier, bytes) as u16 == value_at(given, 14))
+        & (wire::latency(identifier, bytes) == value_at(given, 15))
+}
+
+fn decodes_case(given: &[u8]) -> bool {
+    let at = word_start(given, 16);
+    let datagram = bytes_of(&given[at..]);
+    let bytes = datagram.bytes;
+    let count = datagram.count;
+    same_contents(given, (value_at(given, 1) % 256) as u8, &bytes[..count])
+}
+
+fn one_if(set: bool, weight: u32) -> u32
+    requires { ⌜ weight ≤ 100 ⌝ }
+    ensures { λ r. ⌜ r ≤ 100 ⌝ }
+{
+    if set { weight } else { 0 }
+}
+
+fn fit_case(given: &[u8]) -> bool {
+    let status = (value_at(given, 1) % 256) as u8;
+    let fit = motion::fit_axes(status);
+    let axes = one_if(fit[0], 100) + one_if(fit[1], 10) + one_if(fit[2], 1);
+    (axes == value_at(given, 2) as u32)
+        & (motion::flagged_channels(status) == value_at(given, 3) as u32)
+}
+
+fn gap_case(given: &[u8]) -> bool {
+    let setup = setup_of(0, 0, value_at(given, 1));
+    let previous = (value_at(given, 3) % 256) as u8;
+    let counter = (value_at(given, 4) % 256) as u8;
+    let gap = motion::gap_between(setup, value_at(given, 2) == 1, previous, counter);
+    let at = word_start(given, 5);
+    if given.len() <= at {
+        return false;
+    }
+    match gap {
+        Gap::Missed(count) => (given[at] != 0x3F) & (count.0 == decimal_at(given, at)),
+        Gap::OffStep => given[at] == 0x3F,
+    }
+}
+
+// The reading at the word k.
+fn reading_at(given: &[u8], k: usize) -> i32 {
+    let at = word_start(given, k);
+    if given.len() <= at {
+        return 0;
+    }
+    if given[at] == 0x2D {
+        return 0 - (decimal_at(given, at + 1) % 2147483648) as i32;
+    }
+    (decimal_at(given, at) % 2147483648) as i32
+}
+
+fn row_at(given: &[u8], k: usize) -> [i32; 3]
+    requires { ⌜ k ≤ 21 ⌝ }
+{
+    [
+        reading_at(given, k),
+        reading_at(given, k + 1),
+        reading_at(given, k + 2),
+    ]
+}
+
+fn total_at(given: &[u8], k: usize) -> Total
+    requires { ⌜ k ≤ 43 ⌝ }
+{
+    Total {
+        begun: value_at(given, k) == 1,
+        steps: signed_at(given, k + 1),
+    }
+}
+
+fn group_totals_at(given: &[u8], k: usize) -> GroupTotals
+    requires { ⌜ k ≤ 39 ⌝ }
+{
+    GroupTotals {
+        x: total_at(given, k),
+        y: total_at(given, k + 2),
+        z: total_at(given, k + 4),
+    }
+}
+
+fn totals_given(given: &[u8]) -> Totals {
+    Totals {
+        gyro: group_totals_at(given, 27),
+        accelerometer: group_totals_at(given, 33),
+        inclinometer: group_totals_at(given, 39),
+    }
+}
+
+fn gap_given(given: &[u8]) -> Gap {
+    let at = word_start(given, 14);
+    if given.len() <= at {
+        return Gap::OffStep;
+    }
+    if given[at] == 0x3F {
+        return Gap::OffStep;
+    }
+    Gap::Missed(Datagrams(decimal_at(given, at)))
+}
+
+fn statuses_given(given: &[u8]) -> [u8; 3] {
+    [
+        (value_at(given, 24) % 256) as u8,
+        (value_at(given, 25) % 256) as u8,
+        (value_at(given, 26) % 256) as u8,
+    ]
+}
+
+fn write_given(buffer: &mut [u8], given: &[u8]) -> Written {
+    let ordinal = decimal_at(given, word_start(given, 11));
+    let counter = (value_at(given, 12) % 256) as u8;
+    let gap = gap_given(given);
+    let grid = [row_at(given, 15), row_at(given, 18), row_at(given, 21)];
+    let statuses = statuses_given(given);
+    let totals = totals_given(given);
+    text::write_line(
+        buffer,
+        setup_at(given, 2),
+        ordinal,
+        counter,
+        value_at(given, 13),
+        gap,
+        grid,
+        statuses,
+        totals,
+    )
+}
+
+// What must stand at a place of the buffer: the line, its end, and what was there before.
+fn byte_expected(line: &[u8], number: u64, i: usize) -> u8 {
+    if number != 0 {
+        return 0xEE;
+    }
+    if i < line.len() {
+        return line[i];
+    }
+    if i == line.len() { 0x0A } else { 0xEE }
+}
+
+fn same_buffer(buffer: &[u8; 400], line: &[u8], number: u64) -> bool {
+    let mut i: usize = 0;
+    while i < 400 {
+        if buffer[i] != byte_expected(line, number, i) {
+            return false;
+        }
+        i += 1;
+    }
+    true
+}
+
+fn same_answer(written: Written, line: &[u8], number: u64) -> bool {
+    match written {
+        Written::Line(count) => (number == 0) & (count == line.len() + 1),
+        Written::Refused(refusal) => refusal as u64 == number,
+    }
+}
+
+// A buffer with nothing written yet.
+fn untouched() -> [u8; 400]
+    ensures { λ r. ⌜ length r ≡ 400 ⌝ }
+{
+    [0xEE; 400]
+}
+
+fn write_case(given: &[u8]) -> bool {
+    let number = decimal_at(given, word_start(given, 1));
+    let mut buffer = untouched();
+    let room = (value_at(given, 45) % 401) as usize;
+    let at = word_start(given, 46);
+    let written = write_given(&mut buffer[..room], given);
+    same_answer(written, &given[at..], number) & same_buffer(&buffer, &given[at..], number)
+}
+
 fn passes(given: &[u8]) -> bool {
     if given.len() == 0 {
         return false;
@@ -205,6 +451,11 @@ fn passes(given: &[u8]) -> bool {
         b'r' => reads_case(given),
         b'c' => check_case(given),
         b'm' => mpeg2_case(given),
+        b'a' => accepts_case(given),
+        b'd' => decodes_case(given),
+        b'f' => fit_case(given),
+        b'g' => gap_case(given),
+        b'w' => write_case(given),
         _ => false,
     }
 }
@@ -231,8 +482,15 @@ fn run_all(text: &[u8]) {
     }
 }
 
+// Room for all cases.
+fn room() -> [u8; 131072]
+    ensures { λ r. ⌜ 131072 ≡ length r ⌝ }
+{
+    [0; 131072]
+}
+
 fn main() {
-    let mut buffer = io::large_buffer();
+    let mut buffer = room();
     let count = io::read_full(STDIN_FILENO, &mut buffer);
     run_all(&buffer[..count]);
 }
