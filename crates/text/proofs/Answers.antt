@@ -1,5 +1,5 @@
 -- The answer and the buffer of a line, case by case in checking order.
-use mathlib.Core.Path.{_≡_, refl, _∙_}
+use mathlib.Core.Path.{_≡_, refl, ap, _∙_}
 use mathlib.Core.Bool.{Bool, true, false, not, _||_, cond}
 use mathlib.Core.List.{List, [], _∷_, _++_}
 use Prim.Native.Nat.{ℕ, _+_, _≤_, _<_}
@@ -15,8 +15,8 @@ use Rattle.setup.specs.declared.Setup.{Setup}
 use Rattle.setup.specs.declared.Judgement as judgement
 use Rattle.motion.specs.declared.Gap.{Gap}
 use Rattle.motion.specs.declared.Totals.{Totals}
-use Rattle.text.specs.Putting.{Put}
-use Rattle.text.specs.TextLine.{lineText, readingsFit, totalsWithin, outside, lineRules, lineJudged, lineAnswer, lineBuffer, roomAnswer, roomBuffer}
+use Rattle.text.specs.Putting.{Put, roomAnswer, roomBuffer}
+use Rattle.text.specs.TextLine.{lineText, readingsFit, totalsWithin, outside, lineRules, lineJudged, lineAnswer, lineBuffer}
 use Rattle.text.specs.declared.Written.{Written}
 use Rattle.text.specs.declared.Written.the-variants.{Line, Refused}
 
@@ -95,3 +95,14 @@ module _ (b : List ℕ) (setup : Setup) (ordinal counter latency : ℕ) (gap : G
   pub room-left : judged setup ≡ judgement.the-variants.Accepted → outside ordinal readings totals ≡ false → (roomAnswer b text ≡ answer) × (roomBuffer b text ≡ buffer)
   unfolding lineAnswer lineBuffer lineJudged lineRules judged roomAnswer roomBuffer
   room-left e h = rw (first-accepted (setupRules setup) _ e, h) (refl, refl)
+
+  -- what is copied there, and what is put there
+  module _ (e : judged setup ≡ judgement.the-variants.Accepted) (h : outside ordinal readings totals ≡ false) where
+    pub apart-written : {r : Written} {b1 : List ℕ} → (r ≡ roomAnswer b text) × (b1 ≡ roomBuffer b text) → (r ≡ answer) × (b1 ≡ buffer)
+    apart-written p = let w = room-left e h in (p .0 ∙ w .0, p .1 ∙ w .1)
+
+    pub put-written : {b1 : List ℕ} {n : ℕ} → length text ≤ length b → Put b 0 text b1 n → (Line n ≡ answer) × (b1 ≡ buffer)
+    put-written l p =
+        let w = room-left e h in
+        let q = room-enough b text l in
+        (ap Line (p .place ∙ zero-add (length text)) ∙ q .0 ∙ w .0, p .bytes ∙ put-front b text l ∙ q .1 ∙ w .1)

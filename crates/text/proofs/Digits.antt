@@ -149,7 +149,7 @@ digits-more n h =
     let tens : n / 10 % 10 ≡ n % 1000 / 10 % 10 = omega arith in
     let ones : n % 10 ≡ n % 1000 % 10 = omega arith in
     digits-large n (omega arith)
-    ∙ rw (digits-large m (omega arith), digits-large (m / 10) (omega arith), append-assoc, append-assoc, rest, hundreds, tens, ones) refl
+    ∙ rw (digits-large m (omega arith), digits-large (m / 10) (omega arith)) (simp append-assoc (rw (rest, hundreds, tens, ones)))
 
 -- ---- by the sign
 

@@ -11,8 +11,8 @@ use Rattle.motion.specs.Totals.{groupsKept}
 use Rattle.motion.specs.declared.Gap.{Gap}
 use Rattle.motion.specs.declared.Totals.{Totals}
 use Rattle.text.specs.Decimal.{digits}
-use Rattle.text.specs.Putting.{Put}
-use Rattle.text.specs.TextLine.{missedField, groupsFields, lineFields, parted, lineText, behind, headText}
+use Rattle.text.specs.Putting.{Put, behind, frontText}
+use Rattle.text.specs.TextLine.{missedField, groupsFields, lineFields, parted, lineText}
 use Rattle.text.proofs.Putting.{then-put, put-length}
 
 pub behind-append : (xs ys : List (List ℕ)) → behind (xs ++ ys) ≡ behind xs ++ behind ys
@@ -43,12 +43,12 @@ room-field f fs at h = omega (arith, length-append (0x2C ∷ f) (behind fs))
 -- the line is its front, the fields of the groups and the line end
 pub line-text : (setup : Setup) (ordinal counter latency : ℕ) (gap : Gap) (readings : List (List ℤ)) (statuses : List ℕ) (totals : Totals)
     → lineText setup ordinal counter latency gap readings statuses totals
-    ≡ headText ordinal counter latency gap ++ (behind (groupsFields (groupsCarried (setup .identifier)) (groupsKept setup) readings statuses totals) ++ 0x0A ∷ [])
+    ≡ frontText ordinal counter latency gap ++ (behind (groupsFields (groupsCarried (setup .identifier)) (groupsKept setup) readings statuses totals) ++ 0x0A ∷ [])
 unfolding lineText lineFields
 line-text setup ordinal counter latency gap readings statuses totals =
-    let head = digits counter ∷ digits latency ∷ missedField gap ∷ [] in
+    let front = digits counter ∷ digits latency ∷ missedField gap ∷ [] in
     let groups = groupsFields (groupsCarried (setup .identifier)) (groupsKept setup) readings statuses totals in
     ap (λ t. t ++ 0x0A ∷ [])
-    (parted-behind (digits ordinal) (head ++ groups) ∙ ap (λ t. digits ordinal ++ t) (behind-append head groups)
-    ∙ sym (append-assoc (digits ordinal) (behind head) (behind groups)))
-    ∙ append-assoc (headText ordinal counter latency gap) (behind groups) (0x0A ∷ [])
+    (parted-behind (digits ordinal) (front ++ groups) ∙ ap (λ t. digits ordinal ++ t) (behind-append front groups)
+    ∙ sym (append-assoc (digits ordinal) (behind front) (behind groups)))
+    ∙ append-assoc (frontText ordinal counter latency gap) (behind groups) (0x0A ∷ [])

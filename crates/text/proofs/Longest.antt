@@ -18,7 +18,8 @@ use Rattle.motion.specs.declared.Total.{Total}
 use Rattle.motion.specs.declared.GroupTotals.{GroupTotals}
 use Rattle.motion.specs.declared.Totals.{Totals}
 use Rattle.text.specs.Decimal.{digits, decimal}
-use Rattle.text.specs.TextLine.{shownIf, missedField, axisFields, totalField, totalFields, groupFields, groupsFields, lineText, behind, headText, rowFits, readingsFit, totalWithin, groupWithin, totalsWithin, longestLine}
+use Rattle.text.specs.Putting.{behind, frontText}
+use Rattle.text.specs.TextLine.{shownIf, missedField, axisFields, totalField, totalFields, groupFields, groupsFields, lineText, rowFits, readingsFit, totalWithin, groupWithin, totalsWithin, longestLine}
 use Rattle.text.proofs.Digits.{digits-at-most}
 use Rattle.text.proofs.Fields.{behind-append, line-text}
 
@@ -113,9 +114,9 @@ groups-at-most carried kept readings statuses totals e h f =
       group-at-most (getD carried 2 false) (getD kept 2 false) (getD readings 2 []) (getD statuses 2 0) (totals .inclinometer) (last .1) (h 2) (end .1),
     )
 
-head-at-most : (ordinal counter latency : ℕ) (gap : Gap) → ordinal < 2 ^ 64 → counter < 256 → latency < 65536 → MissedFits gap
-    → length (headText ordinal counter latency gap) ≤ 51
-head-at-most ordinal counter latency gap o c l g =
+front-at-most : (ordinal counter latency : ℕ) (gap : Gap) → ordinal < 2 ^ 64 → counter < 256 → latency < 65536 → MissedFits gap
+    → length (frontText ordinal counter latency gap) ≤ 51
+front-at-most ordinal counter latency gap o c l g =
     omega (
       arith,
       length-append (digits ordinal) (behind (digits counter ∷ digits latency ∷ missedField gap ∷ [])),
@@ -137,13 +138,13 @@ pub longest : (setup : Setup) (ordinal counter latency : ℕ) (gap : Gap) (readi
 longest setup ordinal counter latency gap readings statuses totals o c l g s r t =
     let carried = groupsCarried (setup .identifier) in
     let kept = groupsKept setup in
-    let head = headText ordinal counter latency gap in
+    let front = frontText ordinal counter latency gap in
     let groups = behind (groupsFields carried kept readings statuses totals) in
     omega (
       arith,
       ap length (line-text setup ordinal counter latency gap readings statuses totals),
-      length-append head (groups ++ 0x0A ∷ []),
+      length-append front (groups ++ 0x0A ∷ []),
       length-append groups (0x0A ∷ []),
-      head-at-most ordinal counter latency gap o c l g,
+      front-at-most ordinal counter latency gap o c l g,
       groups-at-most carried kept readings statuses totals r s t,
     )

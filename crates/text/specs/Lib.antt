@@ -1,4 +1,4 @@
 -- The definitions that the contracts of `text` cite.
 pub mod Decimal
-pub mod Putting
 pub mod TextLine
+pub mod Putting

@@ -78,15 +78,6 @@ unfoldable pub lineText : Setup → ℕ → ℕ → ℕ → Gap → List (List �
 lineText setup ordinal counter latency gap readings statuses totals =
     parted (lineFields setup ordinal counter latency gap readings statuses totals) ++ 0x0A ∷ []
 
--- fields each behind its comma, as those after the first stand in a line
-abbrev pub behind : List (List ℕ) → List ℕ
-behind [] = []
-behind (f ∷ fs) = (0x2C ∷ f) ++ behind fs
-
--- the front of a line, before the groups
-abbrev pub headText : ℕ → ℕ → ℕ → Gap → List ℕ
-headText ordinal counter latency gap = digits ordinal ++ behind (digits counter ∷ digits latency ∷ missedField gap ∷ [])
-
 -- ---- what is turned down
 
 -- the readings of a group, and all nine, are in 24 bits
@@ -140,13 +131,6 @@ module _ (b : List ℕ) (setup : Setup) (ordinal counter latency : ℕ) (gap : G
 
   unfoldable pub lineBuffer : List ℕ
   lineBuffer = bufferBy lineJudged (lineText setup ordinal counter latency gap readings statuses totals) b
-
--- a text in a buffer where only 14 is left to refuse it
-unfoldable pub roomAnswer : List ℕ → List ℕ → Written
-roomAnswer b text = writtenBy (firstOf (roomRules text (length b))) text
-
-unfoldable pub roomBuffer : List ℕ → List ℕ → List ℕ
-roomBuffer b text = bufferBy (firstOf (roomRules text (length b))) text b
 
 -- no line that is written is longer
 abbrev pub longestLine : ℕ

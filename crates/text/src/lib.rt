@@ -1,12 +1,11 @@
 // The text line of a datagram, written into a lent buffer (01, The text line).
 ghost use mathlib.Core.Path.{_≡_};
-ghost use mathlib.Core.List.{[], _∷_};
+ghost use mathlib.Core.List.{_∷_};
 ghost use Prim.Native.Nat.{_+_, _<_, _≤_};
-ghost use lib.ListN.{length, take};
-ghost use lib.Seq.{sets};
+ghost use lib.ListN.{length};
 ghost use Rattle.text.specs.Decimal.{digits, decimal, lastThree};
-ghost use Rattle.text.specs.Putting.{Put};
-ghost use Rattle.text.specs.TextLine.{shownIf, missedField, axisFields, totalField, totalFields, groupFields, groupsFields, lineText, behind, headText, rowFits, readingsFit, totalWithin, groupWithin, totalsWithin, outside, lineAnswer, lineBuffer, roomAnswer, roomBuffer, longestLine};
+ghost use Rattle.text.specs.Putting.{Put, behind, frontText, roomAnswer, roomBuffer};
+ghost use Rattle.text.specs.TextLine.{shownIf, missedField, axisFields, totalField, totalFields, groupFields, groupsFields, lineText, rowFits, readingsFit, totalWithin, groupWithin, totalsWithin, outside, lineAnswer, lineBuffer, longestLine};
 use motion::Gap;
 use motion::GroupTotals;
 use motion::Total;
@@ -18,6 +17,14 @@ use setup::Setup;
 pub enum Written {
     Line(usize),
     Refused(u8),
+}
+
+// The fields before the groups.
+struct Front {
+    ordinal: u64,
+    counter: u8,
+    latency: u16,
+    gap: Gap,
 }
 
 // The last three digits of a number, zeros included.
@@ -134,15 +141,15 @@ fn put_missed(buffer: &mut [u8], at: usize, gap: Gap) -> usize
     }
 }
 
-// The fields before the groups.
-fn put_head(buffer: &mut [u8], ordinal: u64, counter: u8, latency: u16, gap: Gap) -> usize
-    requires { ⌜ 0 + length (headText ordinal counter latency gap) ≤ length (now buffer) ⌝ }
-    ensures { λ r. ⌜ Put (now (buffer .entry)) 0 (headText ordinal counter latency gap) (now (buffer .exit)) r ⌝ }
+fn put_front(buffer: &mut [u8], front: Front) -> usize
+    requires { ⌜ length (frontText (front .ordinal) (front .counter) (front .latency) (front .gap)) ≤ length (now buffer) ⌝ }
+    ensures { λ r. ⌜ Put (now (buffer .entry)) 0 (frontText (front .ordinal) (front .counter) (front .latency) (front .gap)) (now (buffer .exit)) r ⌝ }
 {
-    let first = put_digits(buffer, 0, ordinal);
-    let second = put_unsigned(buffer, first, true, counter as u64);
-    let third = put_unsigned(buffer, second, true, latency as u64);
-    put_missed(buffer, third, gap)
+    let ordinal = put_digits(buffer, 0, front.ordinal);
+    let counter = put_unsigned(buffer, ordinal, true, front.counter as u64);
+    let latency = put_unsigned(buffer, counter, true, front.latency as u64);
+    let gap = front.gap;
+    put_missed(buffer, latency, gap)
 }
 
 // X, Y and Z of a group.
@@ -235,21 +242,18 @@ fn put_groups(
 fn put_line(
     buffer: &mut [u8],
     setup: Setup,
-    ordinal: u64,
-    counter: u8,
-    latency: u16,
-    gap: Gap,
+    front: Front,
     readings: [[i32; 3]; 3],
     statuses: [u8; 3],
     totals: Totals,
 ) -> usize
-    requires { ⌜ 0 + length (lineText setup ordinal counter latency gap readings statuses totals) ≤ length (now buffer) ⌝ }
-    ensures { λ r. ⌜ Put (now (buffer .entry)) 0 (lineText setup ordinal counter latency gap readings statuses totals) (now (buffer .exit)) r ⌝ }
+    requires { ⌜ length (lineText setup (front .ordinal) (front .counter) (front .latency) (front .gap) readings statuses totals) ≤ length (now buffer) ⌝ }
+    ensures { λ r. ⌜ Put (now (buffer .entry)) 0 (lineText setup (front .ordinal) (front .counter) (front .latency) (front .gap) readings statuses totals) (now (buffer .exit)) r ⌝ }
 {
     let carried = setup::groups_carried(setup.identifier);
     let kept = motion::kept_groups(setup);
-    let head = put_head(buffer, ordinal, counter, latency, gap);
-    let end = put_groups(buffer, head, carried, kept, readings, statuses, totals);
+    let at = put_front(buffer, front);
+    let end = put_groups(buffer, at, carried, kept, readings, statuses, totals);
     buffer[end] = 0x0A;
     end + 1
 }
@@ -312,29 +316,16 @@ fn copy_line(buffer: &mut [u8], line: &[u8]) -> Written
 fn write_apart(
     buffer: &mut [u8],
     setup: Setup,
-    ordinal: u64,
-    counter: u8,
-    latency: u16,
-    gap: Gap,
+    front: Front,
     readings: [[i32; 3]; 3],
     statuses: [u8; 3],
     totals: Totals,
 ) -> Written
-    requires { ⌜ length (lineText setup ordinal counter latency gap readings statuses totals) ≤ longestLine ⌝ }
-    ensures { λ r. ⌜ r ≡ roomAnswer (now (buffer .entry)) (lineText setup ordinal counter latency gap readings statuses totals) ⌝ ∗ ⌜ now (buffer .exit) ≡ roomBuffer (now (buffer .entry)) (lineText setup ordinal counter latency gap readings statuses totals) ⌝ }
+    requires { ⌜ length (lineText setup (front .ordinal) (front .counter) (front .latency) (front .gap) readings statuses totals) ≤ longestLine ⌝ }
+    ensures { λ r. ⌜ r ≡ roomAnswer (now (buffer .entry)) (lineText setup (front .ordinal) (front .counter) (front .latency) (front .gap) readings statuses totals) ⌝ ∗ ⌜ now (buffer .exit) ≡ roomBuffer (now (buffer .entry)) (lineText setup (front .ordinal) (front .counter) (front .latency) (front .gap) readings statuses totals) ⌝ }
 {
     let mut line: [u8; 307] = [0; 307];
-    let n = put_line(
-        &mut line,
-        setup,
-        ordinal,
-        counter,
-        latency,
-        gap,
-        readings,
-        statuses,
-        totals,
-    );
+    let n = put_line(&mut line, setup, front, readings, statuses, totals);
     copy_line(buffer, &line[..n])
 }
 
@@ -366,28 +357,14 @@ pub fn write_line(
     if outside(ordinal, readings, totals) {
         return Written::Refused(13);
     }
+    let front = Front {
+        ordinal: ordinal,
+        counter: counter,
+        latency: latency,
+        gap: gap,
+    };
     if buffer.len() < longest_line() {
-        return write_apart(
-            buffer,
-            setup,
-            ordinal,
-            counter,
-            latency,
-            gap,
-            readings,
-            statuses,
-            totals,
-        );
+        return write_apart(buffer, setup, front, readings, statuses, totals);
     }
-    Written::Line(put_line(
-        buffer,
-        setup,
-        ordinal,
-        counter,
-        latency,
-        gap,
-        readings,
-        statuses,
-        totals,
-    ))
+    Written::Line(put_line(buffer, setup, front, readings, statuses, totals))
 }

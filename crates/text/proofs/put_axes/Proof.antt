@@ -4,8 +4,8 @@ use Prim.Native.Nat.{ℕ, _+_, _≤_}
 use lib.IntN.{pos}
 use lib.ListN.{length, getD}
 use Rattle.text.specs.Decimal.{decimal}
-use Rattle.text.specs.Putting.{Put}
-use Rattle.text.specs.TextLine.{shownIf, behind}
+use Rattle.text.specs.Putting.{Put, behind}
+use Rattle.text.specs.TextLine.{shownIf}
 use Rattle.text.proofs.Elements.{element-casts, element-same}
 use Rattle.text.proofs.Fields.{room-field}
 use Rattle.text.proofs.Putting.{put-none, then-put, room-then}

@@ -4,7 +4,8 @@ use mathlib.Core.List.{List, _∷_}
 use Prim.Native.Nat.{ℕ, _+_, _≤_}
 use lib.ListN.{length}
 use Rattle.text.specs.Decimal.{digits}
-use Rattle.text.specs.TextLine.{shownIf, axisFields, totalFields, groupFields, behind}
+use Rattle.text.specs.Putting.{behind}
+use Rattle.text.specs.TextLine.{shownIf, axisFields, totalFields, groupFields}
 use Rattle.text.proofs.Fields.{room-field, room-fields, room-more, then-fields}
 use Rattle.text.proofs.Putting.{then-put, room-then}
 use Rattle.text.proofs.put_group.Statement.{statement}

@@ -3,7 +3,8 @@ use mathlib.Core.Bool.{false}
 use mathlib.Core.List.{List, [], _++_}
 use Prim.Native.Nat.{ℕ, _+_, _≤_}
 use lib.ListN.{length, getD}
-use Rattle.text.specs.TextLine.{groupFields, groupsFields, behind}
+use Rattle.text.specs.Putting.{behind}
+use Rattle.text.specs.TextLine.{groupFields, groupsFields}
 use Rattle.text.proofs.Fields.{room-fields, room-more, then-fields}
 use Rattle.text.proofs.put_groups.Statement.{statement}
 use Rattle.text.proofs.put_groups.Tie as tie

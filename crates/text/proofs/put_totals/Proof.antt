@@ -2,7 +2,8 @@ use borrow.Author.Needs.{needs}
 use mathlib.Core.List.{List, [], _∷_}
 use Prim.Native.Nat.{ℕ, _+_, _≤_}
 use lib.ListN.{length}
-use Rattle.text.specs.TextLine.{totalField, behind}
+use Rattle.text.specs.Putting.{behind}
+use Rattle.text.specs.TextLine.{totalField}
 use Rattle.text.proofs.Fields.{room-field}
 use Rattle.text.proofs.Putting.{put-none, then-put, room-then}
 use Rattle.text.proofs.put_totals.Statement.{statement}

@@ -1,6 +1,7 @@
 use borrow.Author.Needs.{needs}
 use Prim.Native.Nat.{ℕ, _≤_}
 use native.Mathlib.Omega.{arith}
+use mathlib.Core.Bool.{false}
 use mathlib.Core.List.{List, [], _∷_}
 use lib.ListN.{length, getD}
 use mir.Syntax.{w8}
@@ -13,26 +14,16 @@ use Rattle.motion.proofs.Gap.Laws as laws
 use Rattle.motion.specs.declared.Gap.{Gap}
 use Rattle.motion.specs.declared.Gap.the-variants.{Missed, OffStep}
 use Rattle.text.proofs.Longest.{MissedFits, longest}
-use mathlib.Core.Path.{_≡_, sym, ap, _∙_}
-use native.Mathlib.Nat.{zero-add}
+use mathlib.Core.Path.{_≡_, sym, _∙_}
 use Rattle.setup.specs.Setup.{judged}
 use Rattle.setup.specs.declared.Judgement.the-variants.{Accepted}
-use Rattle.text.specs.TextLine.{lineText, lineAnswer, lineBuffer, roomAnswer, roomBuffer, longestLine}
-use Rattle.text.specs.declared.Written.{Written}
-use Rattle.text.specs.declared.Written.the-variants.{Line}
-use Rattle.text.proofs.Answers.{put-front, room-enough, inside, setup-refused, values-refused, room-left}
+use Rattle.text.specs.TextLine.{lineText, outside, longestLine}
+use Rattle.text.proofs.Answers.{inside, setup-refused, values-refused, apart-written, put-written}
 use Rattle.text.proofs.write_line.Statement.{statement}
 use Rattle.text.proofs.write_line.Tie as tie
 
--- the line, the answer and the buffer at exit
 abbrev line : tie.Start → List ℕ
 line s = lineText (s .args .setup) (s .args .ordinal) (s .args .counter) (s .args .latency) (s .args .gap) (s .args .readings) (s .args .statuses) (s .args .totals)
-
-abbrev answer : tie.Start → Written
-answer s = lineAnswer (s .args .buffer .now) (s .args .setup) (s .args .ordinal) (s .args .counter) (s .args .latency) (s .args .gap) (s .args .readings) (s .args .statuses) (s .args .totals)
-
-abbrev after : tie.Start → List ℕ
-after s = lineBuffer (s .args .buffer .now) (s .args .setup) (s .args .ordinal) (s .args .counter) (s .args .latency) (s .args .gap) (s .args .readings) (s .args .statuses) (s .args .totals)
 
 -- each number is one of its type
 by : (g : Gap) → Is (row gap.the-type) g (val gap.the-type laws.the-laws g ∷ []) → MissedFits g
@@ -49,16 +40,14 @@ status-fits c i = search needs
 accepted : (c : tie.After-outside) → judged (c .before .before .before .before .before .args .setup) ≡ Accepted
 accepted c = sym (c .before .before .before .judge .ensures) ∙ c .before .enum-told .given .1
 
-left : (c : tie.Else1) → (roomAnswer (c .before .before .before .before .before .before .args .buffer .now) (line (c .before .before .before .before .before .before)) ≡ answer (c .before .before .before .before .before .before)) × (roomBuffer (c .before .before .before .before .before .before .args .buffer .now) (line (c .before .before .before .before .before .before)) ≡ after (c .before .before .before .before .before .before))
-left c =
-    let a = c .before .before .before .before .before .before .args in
-    room-left (a .buffer .now) (a .setup) (a .ordinal) (a .counter) (a .latency) (a .gap) (a .readings) (a .statuses) (a .totals) (accepted (c .before)) (sym (c .before .outside .ensures) ∙ c .if1 .left)
+inside-limits : (c : tie.Else1) → let a = c .before .before .before .before .before .before .args in outside (a .ordinal) (a .readings) (a .totals) ≡ false
+inside-limits c = sym (c .before .outside .ensures) ∙ c .if1 .left
 
 short : (c : tie.Else1) → length (line (c .before .before .before .before .before .before)) ≤ longestLine
 short c =
     let s = c .before .before .before .before .before .before in
     let a = s .args in
-    let h = inside (a .ordinal) (a .readings) (a .totals) (sym (c .before .outside .ensures) ∙ c .if1 .left) in
+    let h = inside (a .ordinal) (a .readings) (a .totals) (inside-limits c) in
     longest (a .setup) (a .ordinal) (a .counter) (a .latency) (a .gap) (a .readings) (a .statuses) (a .totals)
     (omega arith) (omega arith) (omega arith) (gap-fits s) (λ i. status-fits s i .fits) (h .0) (h .1)
 
@@ -95,9 +84,8 @@ same-length c = search needs
 
 returns-3 : tie.Need-returns-3
 returns-3 c =
-    let p = c .before .before .write-apart .ensures in
-    let w = left (c .before .before .before .before .before .before) in
-    (p .0 ∙ w .0, p .1 ∙ w .1)
+    let a = c .before .before .before .before .before .before .before .before .before .before .before .before .args in
+    apart-written (a .buffer .now) (a .setup) (a .ordinal) (a .counter) (a .latency) (a .gap) (a .readings) (a .statuses) (a .totals) (accepted (c .before .before .before .before .before .before .before)) (inside-limits (c .before .before .before .before .before .before)) (c .before .before .write-apart .ensures)
 
 put-line-requires : tie.Need-put-line-requires
 put-line-requires c κs = omega (arith, short (c .before .before .before), c .before .before .longest-line .ensures, c .before .if2 .left)
@@ -107,13 +95,9 @@ same-length-2 c = search needs
 
 returns-4 : tie.Need-returns-4
 returns-4 c =
-    let s = c .before .before .before .before .before .before .before .before .before .before .before .before in
-    let b = s .args .buffer .now in
-    let p = c .before .before .put-line .ensures in
-    let w = left (c .before .before .before .before .before .before) in
-    let h : length (line s) ≤ length b = omega (arith, short (c .before .before .before .before .before .before), c .before .before .before .before .before .longest-line .ensures, c .before .before .before .before .if2 .left) in
-    let e = room-enough b (line s) h in
-    (ap Line (p .place ∙ zero-add (length (line s))) ∙ e .0 ∙ w .0, p .bytes ∙ put-front b (line s) h ∙ e .1 ∙ w .1)
+    let a = c .before .before .before .before .before .before .before .before .before .before .before .before .args in
+    put-written (a .buffer .now) (a .setup) (a .ordinal) (a .counter) (a .latency) (a .gap) (a .readings) (a .statuses) (a .totals) (accepted (c .before .before .before .before .before .before .before)) (inside-limits (c .before .before .before .before .before .before))
+    (omega (arith, short (c .before .before .before .before .before .before), c .before .before .before .before .before .longest-line .ensures, c .before .before .before .before .if2 .left)) (c .before .before .put-line .ensures)
 
 pub write-line-spec : {M : Type 1} → statement M
 write-line-spec =
