@@ -140,3 +140,19 @@ module _ (f : ℤ → ℤ) where
   unfolding fitReadings
   carried-at [] ts e i l g = absurd (omega arith)
   carried-at (s ∷ ds) ts e i l g = carried-by s ds (s .fit) refl ts e (λ us k j m n. carried-at ds us k j m n) i l g
+
+-- ---- and each value is carried by a datagram: the one at some place, numbered by the fit ones before it
+
+place-by : (s : Sighting) (ds : List Sighting) (b : Bool) → s .fit ≡ b
+    → ((k : ℕ) → k < length (fitReadings ds) → (i : ℕ) × (i < length ds) × (getD ds i none .fit ≡ true) × (fitBefore ds i ≡ k))
+    → (k : ℕ) → k < length (cond b (s .reading ∷ fitReadings ds) (fitReadings ds))
+    → (i : ℕ) × (i < length (s ∷ ds)) × (getD (s ∷ ds) i none .fit ≡ true) × (fitBefore (s ∷ ds) i ≡ k)
+unfolding fitBefore fitReadings
+place-by s ds true e r zero h = (0, omega arith, e, refl)
+place-by s ds true e r (suc k) h = let p = r k (omega arith) in (suc (p .0), omega (arith, p .1), p .2, rw e (ap suc (p .3)))
+place-by s ds false e r k h = let p = r k h in (suc (p .0), omega (arith, p .1), p .2, rw e (p .3))
+
+pub place-of : (ds : List Sighting) (k : ℕ) → k < length (fitReadings ds) → (i : ℕ) × (i < length ds) × (getD ds i none .fit ≡ true) × (fitBefore ds i ≡ k)
+unfolding fitReadings
+place-of [] k h = absurd (omega arith)
+place-of (s ∷ ds) k h = place-by s ds (s .fit) refl (λ j l. place-of ds j l) k h

@@ -5,5 +5,6 @@ pub mod AmongLaws
 pub mod RunLaws
 pub mod FrontLaws
 pub mod PlaceLaws
+pub mod CarryLaws
 pub mod PictureLaws
 pub mod Example

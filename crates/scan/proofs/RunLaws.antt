@@ -10,11 +10,11 @@ use lib.ListN.{length, take, drop, length-append, length-drop, take-append-drop}
 use lib.Seq.{length-take-le, take-length}
 use Rattle.scan.specs.Scan.{Verdict, Scanned, scan, holding, passing, handing, First, ends, finds, first, Stable}
 use Rattle.scan.specs.Calls.{State, Limits, sound, Answer, datagram, waiting, refused, Fed, refusing, taking, takes, call, feed, whole, turnedDown, Report, taking-more, none, refuse, wait, hand, skip}
-use Rattle.scan.specs.Stream.{joined, outcome, reports, stream, Among, Lawful}
+use Rattle.scan.specs.Stream.{joined, outcome, reports, NoTen, stream, Among, Lawful}
 use Rattle.scan.specs.Carry.{Consumer, tells, told, carriedAfter, Session, freshSession, soundSession, carrying, feedSession, SessionRun, Keeps, plain, Delivered}
 use Rattle.scan.proofs.ScanLaws.{scan-waits, scan-ends, scan-finds, Parted, parted-at}
 use Rattle.scan.proofs.CallsLaws.{and-true, and-parts, atOnce, feed-unsound, feed-over, feed-past, feed-at-once, Sound, sound-parts, parts-sound, View, over, past, made, view, fresh-sound, feed-sound, takes-le, takes-all}
-use Rattle.scan.proofs.StreamLaws.{outcome-over, outcome-past, outcome-whole, stream-down, reports-down, stream-whole, reports-whole, stream-rest, reports-rest, outcome-not-ten, NoTen, reports-no-ten, takenOf, reports-taken}
+use Rattle.scan.proofs.StreamLaws.{outcome-over, outcome-past, outcome-whole, stream-down, reports-down, stream-whole, reports-whole, stream-rest, reports-rest, outcome-not-ten, reports-no-ten, takenOf, reports-taken}
 use Rattle.scan.proofs.AmongLaws.{follows-stable, scan-among, among-scan}
 
 -- the answers are three

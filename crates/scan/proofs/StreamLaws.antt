@@ -9,7 +9,7 @@ use native.Mathlib.Omega.{arith}
 use borrow.Author.Tests.{le-leb, lt-leb}
 use lib.ListN.{length, drop, length-append, length-drop}
 use Rattle.scan.specs.Calls.{Limits, Outcome, whole, turnedDown, Report, taking-more}
-use Rattle.scan.specs.Stream.{outcome, kept, counted, joined, reports, stream}
+use Rattle.scan.specs.Stream.{outcome, kept, counted, joined, reports, NoTen, stream}
 
 module _ (L : Limits) (n k : ℕ) where
   pub outcome-over : L .piece < k → outcome L n k ≡ turnedDown 11
@@ -103,11 +103,6 @@ module _ (L : Limits) (n : ℕ) (p : List ℕ) (ps : List (List ℕ)) (small : l
             let h : rs ≡ reports L (n + length p) ps = cc in
             let sum : k + length (drop k p) ≡ length p = omega (arith, back) in
             rw (g, h, sum, reports-whole L n p ps (outcome-whole L n (length p) small fits))
-
--- no piece is reported as turned down by 10
-abbrev pub NoTen : List Report → Type 0
-NoTen [] = Unit {0}
-NoTen (r ∷ rs) = (r .outcome ≡ turnedDown 10 → ⊥) × NoTen rs
 
 pub reports-no-ten : (L : Limits) (n : ℕ) (ps : List (List ℕ)) → NoTen (reports L n ps)
 unfolding reports

@@ -35,6 +35,11 @@ reports L n (p ∷ ps) =
     let o : Outcome = outcome L n (length p) in
     record { outcome = o; taken = counted o (length p) } ∷ reports L (n + counted o (length p)) ps
 
+-- no piece is reported as turned down by 10
+abbrev pub NoTen : List Report → Type 0
+NoTen [] = Unit {0}
+NoTen (r ∷ rs) = (r .outcome ≡ turnedDown 10 → ⊥) × NoTen rs
+
 -- The stream: the pieces that are not left out, joined
 unfoldable pub stream : Limits → ℕ → List (List ℕ) → List ℕ
 stream L n [] = []
