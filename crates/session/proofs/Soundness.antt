@@ -1,0 +1,90 @@
+-- What it says that a session is sound, clause by clause (01, What is turned down, 10). Assumes nothing.
+use mathlib.Core.Path.{_≡_, refl, sym, ap, _∙_}
+use mathlib.Core.Bool.{true, _&&_, _||_, and-assoc}
+use mathlib.Core.List.{List, [], _∷_}
+use Prim.Native.Nat.{ℕ, zero, suc, _+_, _*_, _^_, _≤_}
+use native.Mathlib.Omega.{arith}
+use native.Mathlib.Nat.{mul-le-mul-right}
+use lib.Dec.{eqb, leb, ltb, eqb·suc-zero}
+use lib.ListN.{length, take, drop, getD}
+use lib.Seq.{length-take-le}
+use borrow.Author.Tests.{eqb-true, eq-eqb, leb-true, le-leb}
+use Rattle.integers.proofs.Ranges.{and-split}
+use Rattle.setup.specs.Setup.{judged, lengthOf}
+use Rattle.setup.specs.declared.Judgement.{Judgement}
+use Rattle.setup.specs.declared.Judgement.the-variants.{Accepted, Refused}
+use Rattle.scan.specs.Front.{heldRule}
+use Rattle.scan.proofs.CallsLaws.{and-true}
+use Rattle.session.specs.declared.Session.{Session}
+use Rattle.session.specs.Session.{isAccepted, setupRight, heldBytes, heldRight, allZero, restRight, sumRight, fedRight, axesRight, isSound}
+
+-- the clauses as facts
+pub record Facts (s : Session) : Type 0 where
+  pub accepted : judged (s .setup) ≡ Accepted
+  pub within : s .count ≤ length (s .held)
+  pub held : heldRule (s .setup .identifier) (lengthOf (s .setup)) (heldBytes s) ≡ true
+  pub rest : allZero (drop (s .count) (s .held)) ≡ true
+  pub sum : lengthOf (s .setup) * s .datagrams .0 + s .passed + s .count ≡ s .fed
+  pub most : s .fed ≤ 2 ^ 34
+  pub axes : axesRight (s .setup) (s .datagrams .0) (s .axes) ≡ true
+
+pub accepted-true : (j : Judgement) → isAccepted j ≡ true → j ≡ Accepted
+accepted-true Accepted e = refl
+accepted-true (Refused n) e = let z : _≡_ {A = ℕ} 0 1 = cc in absurd (omega arith)
+
+pub sound-facts : (s : Session) → isSound s ≡ true → Facts s
+unfolding isSound
+sound-facts s e =
+    let p = and-split (setupRight s) _ e in
+    let q = and-split (heldRight s) _ (p .1) in
+    let h = and-split (leb (s .count) (length (s .held))) _ (q .0) in
+    let r = and-split (restRight s) _ (q .1) in
+    let t = and-split (sumRight s) _ (r .1) in
+    let f = and-split (fedRight s) _ (t .1) in
+    record {
+      accepted = accepted-true (judged (s .setup)) (p .0);
+      within = leb-true (s .count) (length (s .held)) (h .0);
+      held = h .1;
+      rest = r .0;
+      sum = eqb-true (lengthOf (s .setup) * s .datagrams .0 + s .passed + s .count) (s .fed) (t .0);
+      most = leb-true (s .fed) (2 ^ 34) (f .0);
+      axes = f .1;
+    }
+
+pub facts-sound : (s : Session) → Facts s → isSound s ≡ true
+unfolding isSound
+facts-sound s h =
+    and-true (ap isAccepted (h .accepted))
+    (and-true (and-true (le-leb (s .count) (length (s .held)) (h .within)) (h .held))
+    (and-true (h .rest)
+    (and-true (eq-eqb (lengthOf (s .setup) * s .datagrams .0 + s .passed + s .count) (s .fed) (h .sum))
+    (and-true (le-leb (s .fed) (2 ^ 34) (h .most)) (h .axes)))))
+
+-- ---- what the tests of the code come to
+
+-- the same test with its clauses in pairs, as the code takes them
+pub in-parts : (s : Session) → isSound s ≡ (setupRight s && ((heldRight s && restRight s) && ((sumRight s && fedRight s) && axesRight (s .setup) (s .datagrams .0) (s .axes))))
+unfolding isSound
+in-parts s =
+    let rest = axesRight (s .setup) (s .datagrams .0) (s .axes) in
+    sym
+    (ap (λ t. setupRight s && t)
+    (and-assoc (heldRight s) (restRight s) ((sumRight s && fedRight s) && rest)
+    ∙ ap (λ t. heldRight s && (restRight s && t)) (and-assoc (sumRight s) (fedRight s) rest)))
+
+-- the rule for held bytes by their count and their first
+pub held-rule : (identifier size : ℕ) (bytes : List ℕ) (n : ℕ) → n ≤ length bytes → heldRule identifier size (take n bytes) ≡ (eqb n 0 || (eqb (getD bytes 0 0) identifier && ltb n size))
+unfolding heldRule
+held-rule identifier size bytes zero h = refl
+held-rule identifier size [] (suc n) h = absurd (omega arith)
+held-rule identifier size (b ∷ bytes) (suc n) h =
+    let k : n ≤ length bytes = omega arith in
+    rw (length-take-le n bytes k, eqb·suc-zero n)
+
+-- right counts are few, for a datagram is 18 bytes at least
+pub counts-few : (size datagrams passed held fed : ℕ) → 18 ≤ size → (eqb (size * datagrams + passed + held) fed && leb fed (2 ^ 34)) ≡ true → datagrams ≤ 2 ^ 34
+counts-few size datagrams passed held fed h e =
+    let p = and-split (eqb (size * datagrams + passed + held) fed) (leb fed (2 ^ 34)) e in
+    let x : size * datagrams + passed + held ≡ fed = eqb-true (size * datagrams + passed + held) fed (p .0) in
+    let y : fed ≤ 2 ^ 34 = leb-true fed (2 ^ 34) (p .1) in
+    omega (arith, mul-le-mul-right datagrams h)

@@ -1,0 +1,2 @@
+-- A session, opening one, and refusal 10.
+pub mod Session

@@ -1,0 +1,127 @@
+-- 01, The scan: a fresh session; What is turned down: 4 to 9 of opening, and 10 of feeding, clause by clause.
+use Prim.Native.Nat.{ℕ, _+_, _*_, _^_}
+use mathlib.Core.Bool.{Bool, true, false, not, _&&_, _||_}
+use mathlib.Core.List.{List, [], _∷_}
+use lib.Dec.{eqb, leb}
+use lib.IntN.{pos}
+use lib.ListN.{length, take, drop, replicate}
+use Rattle.integers.specs.Ranges.{isZero, within, inReading}
+use Rattle.setup.specs.Setup.{judged, zeroSetup, lengthOf}
+use Rattle.setup.specs.declared.Setup.{Setup}
+use Rattle.setup.specs.declared.Judgement.{Judgement}
+use Rattle.setup.specs.declared.Judgement.the-variants.{Accepted, Refused}
+use Rattle.motion.specs.Gaps.{datagrams}
+use Rattle.motion.specs.Totals.{keeps}
+use Rattle.motion.specs.declared.Axis.{Axis}
+use Rattle.motion.specs.declared.GroupAxes.{GroupAxes}
+use Rattle.motion.specs.declared.Axes.{Axes}
+use Rattle.scan.specs.Calls.{Limits}
+use Rattle.scan.specs.Front.{heldRule}
+use Rattle.session.specs.declared.Session.{Session}
+use Rattle.session.specs.declared.Opened.{Opened}
+
+-- ---- a fresh session, and opening
+
+-- an axis to which no fit datagram came
+abbrev pub noAxis : Axis
+noAxis = record { begun = false; last = pos 0; total = pos 0 }
+
+abbrev pub noGroup : GroupAxes
+noGroup = record { x = noAxis; y = noAxis; z = noAxis }
+
+abbrev pub noAxes : Axes
+noAxes = record { gyro = noGroup; accelerometer = noGroup; inclinometer = noGroup }
+
+-- a fresh session holds nothing
+unfoldable pub freshOf : Setup → Session
+freshOf u =
+    record {
+      setup = u;
+      held = replicate 64 0;
+      count = 0;
+      datagrams = datagrams 0;
+      passed = 0;
+      fed = 0;
+      previous = 0;
+      axes = noAxes;
+    }
+
+-- opening gives a fresh session, or refuses the setup by 4 to 9 and gives a session of zeros
+abbrev pub openedBy : Judgement → Setup → Session
+openedBy Accepted u = freshOf u
+openedBy (Refused n) u = freshOf zeroSetup
+
+unfoldable pub opening : Setup → Opened
+opening u = record { answer = judged u; session = openedBy (judged u) u }
+
+-- ---- what feeding asks of a session: refusal 10, in 01's order
+
+-- the most bytes of a piece (11), and of a session (10 and 12)
+abbrev pub limits : Limits
+limits = record { piece = 4096; session = 2 ^ 34 }
+
+-- its setup would not be refused
+abbrev pub isAccepted : Judgement → Bool
+isAccepted Accepted = true
+isAccepted (Refused n) = false
+
+abbrev pub setupRight : Session → Bool
+setupRight s = isAccepted (judged (s .setup))
+
+-- its held bytes keep the scan's rule; as many as it counts are there
+abbrev pub heldBytes : Session → List ℕ
+heldBytes s = take (s .count) (s .held)
+
+abbrev pub heldRight : Session → Bool
+heldRight s = leb (s .count) (length (s .held)) && heldRule (s .setup .identifier) (lengthOf (s .setup)) (heldBytes s)
+
+-- they are zero beyond their count
+unfoldable pub allZero : List ℕ → Bool
+allZero [] = true
+allZero (b ∷ s) = eqb b 0 && allZero s
+
+abbrev pub restRight : Session → Bool
+restRight s = allZero (drop (s .count) (s .held))
+
+-- L × datagrams + passed over + held is bytes fed, which don't exceed 2 ^ 34
+abbrev pub sumRight : Session → Bool
+sumRight s = eqb (lengthOf (s .setup) * s .datagrams .0 + s .passed + s .count) (s .fed)
+
+abbrev pub fedRight : Session → Bool
+fedRight s = leb (s .fed) (limits .session)
+
+-- of an axis, after n datagrams: its total is at most n × 2 ^ 23 in size
+abbrev pub totalRight : ℕ → Axis → Bool
+totalRight n a = within (n * 2 ^ 23) (a .total)
+
+-- its kept reading is in 24 bits
+abbrev pub lastRight : Axis → Bool
+lastRight a = inReading (a .last)
+
+-- it has begun and keeps a total, or it is all zero
+abbrev pub isIdle : Axis → Bool
+isIdle a = not (a .begun) && (isZero (a .last) && isZero (a .total))
+
+abbrev pub idleRight : Bool → Axis → Bool
+idleRight kept a = (kept && a .begun) || isIdle a
+
+unfoldable pub axisRight : Bool → ℕ → Axis → Bool
+axisRight kept n a = totalRight n a && (lastRight a && idleRight kept a)
+
+-- of the three axes of a group, and of the nine
+unfoldable pub groupRight : Bool → ℕ → GroupAxes → Bool
+groupRight kept n g = axisRight kept n (g .x) && (axisRight kept n (g .y) && axisRight kept n (g .z))
+
+unfoldable pub axesRight : Setup → ℕ → Axes → Bool
+axesRight u n a =
+    groupRight (keeps u 0) n (a .gyro) && (groupRight (keeps u 1) n (a .accelerometer) && groupRight (keeps u 2) n (a .inclinometer))
+
+-- feeding doesn't turn the session down by 10
+unfoldable pub isSound : Session → Bool
+isSound s =
+    setupRight s &&
+    (heldRight s &&
+    (restRight s &&
+    (sumRight s &&
+    (fedRight s &&
+    axesRight (s .setup) (s .datagrams .0) (s .axes)))))

@@ -1,0 +1,224 @@
+// A session: opening one, and whether feeding turns it down (01, The scan; What is turned down, 4 to 10).
+ghost use mathlib.Core.Path.{_≡_};
+ghost use mathlib.Core.Bool.{_&&_};
+ghost use Prim.Native.Nat.{_+_, _*_, _^_, _≤_};
+ghost use lib.Dec.{eqb, leb};
+ghost use lib.ListN.{length, take, drop};
+ghost use Rattle.setup.specs.Setup.{zeroSetup};
+ghost use Rattle.scan.specs.Front.{heldRule};
+ghost use Rattle.session.specs.Session.{noAxes, freshOf, opening, isAccepted, allZero, axisRight, groupRight, axesRight, isSound};
+use motion::Axes;
+use motion::Axis;
+use motion::Datagrams;
+use motion::GroupAxes;
+use setup::Judgement;
+use setup::Setup;
+
+// What is kept from call to call.
+pub struct Session {
+    pub setup: Setup,
+    // the bytes held, zeros behind them, and how many they are
+    pub held: [u8; 64],
+    pub count: usize,
+    // how many datagrams were handed out
+    pub datagrams: Datagrams,
+    // how many bytes were passed over, and how many were fed
+    pub passed: u64,
+    pub fed: u64,
+    // the counter of the datagram handed out last
+    pub previous: u8,
+    pub axes: Axes,
+}
+
+// What opening gives back: the judgement on the setup, and a fresh session, one of zeros where the setup is refused.
+pub struct Opened {
+    pub answer: Judgement,
+    pub session: Session,
+}
+
+// Nine axes to which no fit datagram came.
+fn no_axes() -> Axes
+    ensures { λ r. ⌜ r ≡ noAxes ⌝ }
+{
+    let axis = Axis {
+        begun: false,
+        last: 0,
+        total: 0,
+    };
+    let group = GroupAxes {
+        x: axis,
+        y: axis,
+        z: axis,
+    };
+    Axes {
+        gyro: group,
+        accelerometer: group,
+        inclinometer: group,
+    }
+}
+
+// A session that holds nothing and has counted nothing.
+fn fresh(setup: Setup) -> Session
+    ensures { λ r. ⌜ r ≡ freshOf setup ⌝ }
+{
+    let axes = no_axes();
+    Session {
+        setup: setup,
+        held: [0; 64],
+        count: 0,
+        datagrams: Datagrams(0),
+        passed: 0,
+        fed: 0,
+        previous: 0,
+        axes: axes,
+    }
+}
+
+// The setup of a session of zeros.
+fn zero_setup() -> Setup
+    ensures { λ r. ⌜ r ≡ zeroSetup ⌝ }
+{
+    Setup {
+        rate: 0,
+        identifier: 0,
+        termination: 0,
+        units: [0; 3],
+        shifts: [0; 3],
+    }
+}
+
+// Whether a setup was accepted.
+fn is_accepted(answer: Judgement) -> bool
+    ensures { λ r. ⌜ r ≡ isAccepted answer ⌝ }
+{
+    match answer {
+        Judgement::Accepted => true,
+        Judgement::Refused(number) => false,
+    }
+}
+
+// A fresh session of a setup, or the number, 4 to 9, that refuses the setup, with a session of zeros.
+pub fn open(setup: Setup) -> Opened
+    ensures { λ r. ⌜ r ≡ opening setup ⌝ }
+{
+    let answer = setup::judge(setup);
+    if is_accepted(answer) {
+        let session = fresh(setup);
+        return Opened {
+            answer: answer,
+            session: session,
+        };
+    }
+    let zeros = zero_setup();
+    let session = fresh(zeros);
+    Opened {
+        answer: answer,
+        session: session,
+    }
+}
+
+// Whether the bytes behind a place are all zero.
+fn zeros_behind(bytes: [u8; 64], place: usize) -> bool
+    requires { ⌜ place ≤ 64 ⌝ }
+    ensures { λ r. ⌜ r ≡ allZero (drop place bytes) ⌝ }
+{
+    let mut i = place;
+    while i < 64 {
+        if bytes[i] != 0 {
+            return false;
+        }
+        i += 1;
+    }
+    true
+}
+
+// Whether the held bytes are there, keep the scan's rule and have zeros behind them.
+fn held_right(identifier: u8, size: usize, held: [u8; 64], count: usize) -> bool
+    ensures { λ r. ⌜ r ≡ ((leb count (length held) && heldRule identifier size (take count held)) && allZero (drop count held)) ⌝ }
+{
+    if 64 < count {
+        return false;
+    }
+    let zeros = zeros_behind(held, count);
+    ((count == 0) | ((held[0] == identifier) & (count < size))) & zeros
+}
+
+// Whether the byte sum is right and not above 2^34. Counts above that are turned down before they are multiplied.
+fn counts_right(size: u64, datagrams: u64, passed: u64, held: u64, fed: u64) -> bool
+    requires { ⌜ (18 ≤ size) × (size ≤ 65) × (held ≤ 64) ⌝ }
+    ensures { λ r. ⌜ r ≡ (eqb (size * datagrams + passed + held) fed && leb fed (2 ^ 34)) ⌝ }
+{
+    if 17179869184 < datagrams {
+        return false;
+    }
+    if 17179869184 < passed {
+        return false;
+    }
+    (size * datagrams + passed + held == fed) & (fed <= 17179869184)
+}
+
+// Whether an axis is one that so many datagrams can leave.
+fn axis_right(kept: bool, datagrams: u64, axis: Axis) -> bool
+    requires { ⌜ datagrams ≤ 2 ^ 34 ⌝ }
+    ensures { λ r. ⌜ r ≡ axisRight kept datagrams axis ⌝ }
+{
+    let begun = axis.begun;
+    let last = axis.last;
+    let total = axis.total;
+    let small = integers::is_within(total, datagrams * 8388608);
+    let fits = integers::fits_reading(last);
+    let unread = integers::is_zero(last);
+    let unmoved = integers::is_zero_wide(total);
+    small & (fits & ((kept & begun) | (!begun & (unread & unmoved))))
+}
+
+// The same of the three axes of a group.
+fn group_right(kept: bool, datagrams: u64, group: GroupAxes) -> bool
+    requires { ⌜ datagrams ≤ 2 ^ 34 ⌝ }
+    ensures { λ r. ⌜ r ≡ groupRight kept datagrams group ⌝ }
+{
+    let x = axis_right(kept, datagrams, group.x);
+    let y = axis_right(kept, datagrams, group.y);
+    let z = axis_right(kept, datagrams, group.z);
+    x & (y & z)
+}
+
+// And of the nine.
+fn axes_right(setup: Setup, datagrams: u64, axes: Axes) -> bool
+    requires { ⌜ datagrams ≤ 2 ^ 34 ⌝ }
+    ensures { λ r. ⌜ r ≡ axesRight setup datagrams axes ⌝ }
+{
+    let kept = motion::kept_groups(setup);
+    let gyro = group_right(kept[0], datagrams, axes.gyro);
+    let accelerometer = group_right(kept[1], datagrams, axes.accelerometer);
+    let inclinometer = group_right(kept[2], datagrams, axes.inclinometer);
+    gyro & (accelerometer & inclinometer)
+}
+
+// Whether feeding doesn't turn the session down by 10.
+pub fn is_sound(session: Session) -> bool
+    ensures { λ r. ⌜ r ≡ isSound session ⌝ }
+{
+    let setup = session.setup;
+    let held = session.held;
+    let count = session.count;
+    let datagrams = session.datagrams.0;
+    let answer = setup::judge(setup);
+    if !is_accepted(answer) {
+        return false;
+    }
+    let size = setup::length_of(setup);
+    if !held_right(setup.identifier, size, held, count) {
+        return false;
+    }
+    if !counts_right(
+        size as u64,
+        datagrams,
+        session.passed,
+        count as u64,
+        session.fed,
+    ) {
+        return false;
+    }
+    axes_right(setup, datagrams, session.axes)
+}
