@@ -161,7 +161,7 @@ fn same_setup(a: Setup, b: Setup) -> bool {
 
 // The number that refuses a line, 0 if it is accepted.
 fn line_number(line: &[u8]) -> u64 {
-    let read = setup::read_line(line);
+    let read = setup_line::read_line(line);
     let answer = read.answer;
     number_of(answer)
 }
@@ -185,7 +185,7 @@ fn setup_case(given: &[u8]) -> bool {
 
 fn reads_case(given: &[u8]) -> bool {
     let at = word_start(given, 10);
-    let read = setup::read_line(&given[at..]);
+    let read = setup_line::read_line(&given[at..]);
     let setup = read.setup;
     same_setup(setup, setup_at(given, 1))
 }

@@ -1,8 +1,5 @@
--- Laws of the layouts, of a setup's refusals and of the fields of a line.
+-- Laws of the layouts, and of a setup's refusals.
 pub mod Ranges
 pub mod Layouts
-pub mod Fields
-pub mod Digits
-pub mod Written
+pub mod Rules
 pub mod Refusals
-pub mod Example

@@ -1,4 +1,3 @@
--- The rules of the layouts by identifier, of a setup and of the line that writes it down, with what is turned down of them.
+-- The rules of the layouts by identifier and of a setup, with what is turned down of it.
 pub mod Layout
 pub mod Setup
-pub mod SetupLine

@@ -12,7 +12,7 @@ use lib.Dec.{T, ltb, nltb→le}
 use lib.IntN.{ℤ, pos, negsuc, natAbs}
 use lib.ListN.{length, length-append, getD, List·getD-append}
 use Rattle.integers.proofs.Parts.{posPart, negPart}
-use Rattle.setup.specs.SetupLine.{isDigit, digitValue, allDigits, decimalFrom}
+use Rattle.setup_line.specs.SetupLine.{isDigit, digitValue, allDigits, decimalFrom}
 use Rattle.text.specs.Decimal.{digitsBy, digits, decimal, lastThree}
 
 -- ---- the two equations

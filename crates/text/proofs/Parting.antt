@@ -9,7 +9,7 @@ use lib.Dec.{eqb}
 use lib.IntN.{ℤ, pos, negsuc}
 use lib.ListN.{length, getD, replicate}
 use Rattle.setup.specs.Layout.{groupsCarried}
-use Rattle.setup.specs.SetupLine.{fieldsOf}
+use Rattle.setup_line.specs.SetupLine.{fieldsOf}
 use Rattle.setup.specs.declared.Setup.{Setup}
 use Rattle.motion.specs.Totals.{groupsKept}
 use Rattle.motion.specs.declared.Gap.{Gap}
