@@ -1,7 +1,7 @@
 -- The answer and the buffer of a line, case by case in checking order.
 use mathlib.Core.Path.{_≡_, refl, ap, _∙_}
-use mathlib.Core.Bool.{Bool, true, false, not, _||_, cond}
-use mathlib.Core.List.{List, [], _∷_, _++_}
+use mathlib.Core.Bool.{Bool, true, false, not, _||_}
+use mathlib.Core.List.{List, _++_}
 use Prim.Native.Nat.{ℕ, _+_, _≤_, _<_}
 use native.Mathlib.Nat.{zero-add}
 use native.Mathlib.Omega.{arith}
@@ -10,9 +10,10 @@ use lib.Dec.{eqb}
 use lib.IntN.{ℤ}
 use lib.ListN.{length, take, drop}
 use lib.Seq.{sets, sets-eq, paste, take-length, take-at}
-use Rattle.setup.specs.Setup.{Rule, firstOf, setupRules, judged}
+use Rattle.setup.specs.Setup.{setupRules, judged}
 use Rattle.setup.specs.declared.Setup.{Setup}
 use Rattle.setup.specs.declared.Judgement as judgement
+use Rattle.setup.proofs.Rules.{first-accepted, first-refused}
 use Rattle.motion.specs.declared.Gap.{Gap}
 use Rattle.motion.specs.declared.Totals.{Totals}
 use Rattle.text.specs.Putting.{Put, roomAnswer, roomBuffer}
@@ -42,24 +43,6 @@ module _ (b text : List ℕ) where
   pub room-enough : length text ≤ length b → (Line (length text) ≡ roomAnswer b text) × (text ++ drop (length text) b ≡ roomBuffer b text)
   unfolding roomAnswer roomBuffer
   room-enough h = rw (le-ltb (length b) (length text) h) (refl, refl)
-
--- ---- rules in two lists, the one after the other
-
-pub first-accepted : (rs ss : List Rule) → firstOf rs ≡ judgement.the-variants.Accepted → firstOf (rs ++ ss) ≡ firstOf ss
-first-accepted [] ss e = refl
-first-accepted (r ∷ rs) ss e = by (r .applies) e (first-accepted rs ss)
-  where
-    by : (t : Bool) → cond t (judgement.the-variants.Refused (r .number)) (firstOf rs) ≡ judgement.the-variants.Accepted → (firstOf rs ≡ judgement.the-variants.Accepted → firstOf (rs ++ ss) ≡ firstOf ss) → cond t (judgement.the-variants.Refused (r .number)) (firstOf (rs ++ ss)) ≡ firstOf ss
-    by true e next = let z : _≡_ {A = ℕ} 0 1 = cc in absurd (omega arith)
-    by false e next = next e
-
-pub first-refused : (rs ss : List Rule) {n : ℕ} → firstOf rs ≡ judgement.the-variants.Refused n → firstOf (rs ++ ss) ≡ judgement.the-variants.Refused n
-first-refused [] ss e = let z : _≡_ {A = ℕ} 0 1 = cc in absurd (omega arith)
-first-refused (r ∷ rs) ss {n} e = by (r .applies) e (first-refused rs ss)
-  where
-    by : (t : Bool) → cond t (judgement.the-variants.Refused (r .number)) (firstOf rs) ≡ judgement.the-variants.Refused n → (firstOf rs ≡ judgement.the-variants.Refused n → firstOf (rs ++ ss) ≡ judgement.the-variants.Refused n) → cond t (judgement.the-variants.Refused (r .number)) (firstOf (rs ++ ss)) ≡ judgement.the-variants.Refused n
-    by true e next = e
-    by false e next = next e
 
 -- ---- the line
 

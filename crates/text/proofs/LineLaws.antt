@@ -16,12 +16,13 @@ use Rattle.setup.specs.declared.Setup.{Setup}
 use Rattle.setup.specs.declared.Judgement as judgement
 use Rattle.setup.specs.declared.Judgement.{Judgement}
 use Rattle.setup.proofs.Refusals.{judge-numbers}
+use Rattle.setup.proofs.Rules.{first-accepted, first-refused}
 use Rattle.motion.specs.declared.Gap.{Gap}
 use Rattle.motion.specs.declared.Totals.{Totals}
 use Rattle.text.specs.TextLine.{lineText, outside, roomRules, lineRules, writtenBy, lineJudged, lineAnswer, lineBuffer, longestLine}
 use Rattle.text.specs.declared.Written.{Written}
 use Rattle.text.specs.declared.Written.the-variants.{Line, Refused}
-use Rattle.text.proofs.Answers.{first-accepted, first-refused, room-short, room-enough, room-left, inside}
+use Rattle.text.proofs.Answers.{room-short, room-enough, room-left, inside}
 use Rattle.text.proofs.Longest.{MissedFits, longest}
 
 -- ---- from an answer to the judgement
