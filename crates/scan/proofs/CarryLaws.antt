@@ -27,7 +27,8 @@ feed-fed verdict L true s p = by (view verdict L s p)
     by (made h k q) = rw q (call-fed verdict s p)
 
 module _ {X O : Type 0} (K : Consumer X O) where
-  reply-refused : (x : X) (a : Answer (List ℕ)) {n : ℕ} → reply K x a ≡ refused n → a ≡ refused n
+  -- a reply is a refusal only where the call was one
+  pub reply-refused : (x : X) (a : Answer (List ℕ)) {n : ℕ} → reply K x a ≡ refused n → a ≡ refused n
   reply-refused x (datagram d) e = absurd (let z : _≡_ {A = ℕ} 0 1 = cc in omega arith)
   reply-refused x waiting e = absurd (let z : _≡_ {A = ℕ} 0 1 = cc in omega arith)
   reply-refused x (refused m) {n} e = let z : m ≡ n = cc in ap refused z

@@ -1,0 +1,310 @@
+-- Demands 2 and 3 of every setup that is not refused.
+-- Assumes nothing.
+use Prim.Native.Nat.{ℕ, suc, _+_, _*_, _^_, _≤_, _<_}
+use mathlib.Core.Path.{_≡_, refl, sym, ap, _∙_, subst}
+use mathlib.Core.Bool.{Bool, true}
+use mathlib.Core.List.{List, [], _∷_}
+use native.Mathlib.Nat.{mul-le-mul-right}
+use native.Mathlib.Omega.{arith}
+use lib.Ieee.{Float}
+use lib.Ieee.Exact.{HasValue}
+use lib.IntN.{ℤ, pos, natAbs, _-ℤ_, _*ℤ_}
+use lib.ListN.{length, take, getD, length-map}
+use Rattle.integers.proofs.Folding.{abs-of-range}
+use Rattle.setup.specs.Setup.{judged, lengthOf}
+use Rattle.setup.specs.declared.Setup.{Setup}
+use Rattle.setup.specs.declared.Judgement.the-variants.{Accepted}
+use Rattle.setup.proofs.Refusals.{accepted-length}
+use Rattle.wire.specs.Fields.{fieldsOf}
+use Rattle.wire.proofs.FieldRanges.{fields-fit}
+use Rattle.motion.specs.Doubles.{negative, plusZero, quotient, knownShift, unitOf, doublesIn, valuesAt, valuesFor}
+use Rattle.motion.specs.Totals as totals
+use Rattle.motion.specs.Totals.{Sighting, keeps, none, totalOf, totalAt, totalDouble, doubleAt, fitReadings, fitBefore, readingOf}
+use Rattle.motion.specs.declared.Total.{Total}
+use Rattle.motion.specs.declared.Values.{Values}
+use Rattle.motion.proofs.AcceptedSetup.{accepted-unit, accepted-shift}
+use Rattle.motion.proofs.Doubles.{reading-exact, total-exact, values-told}
+use Rattle.motion.proofs.NineAxes.{each, values-at}
+use Rattle.motion.proofs.TrueChange.{kept-at-each, carried-at, place-of}
+use Rattle.scan.specs.Scan.{scan}
+use Rattle.scan.specs.Calls as calls
+use Rattle.scan.specs.Calls.{Report}
+use Rattle.scan.specs.Front.{heldRule}
+use Rattle.scan.specs.Stream.{joined, Among, NoTen}
+use Rattle.scan.specs.Carry.{Delivered}
+use Rattle.scan.proofs.AmongLaws.{scan-among, among-scan}
+use Rattle.scan.proofs.CarryLaws.{told-at, length-told, among-each, joined-length}
+use Rattle.scan.proofs.RunLaws.{always-run, always-delivered, run-one, fresh-safe}
+use Rattle.scan.proofs.StreamLaws.{every-stream, reports-no-ten}
+use Rattle.search.specs.Search.{isDatagram, verdictOf}
+use Rattle.search.proofs.ByteLists.{datagram-parts}
+use Rattle.search.proofs.Datagrams.{shaped, lawful}
+use Rattle.session.specs.Session.{limits, noAxis, freshOf, opening, isSound}
+use Rattle.session.specs.declared.Session.{Session}
+use Rattle.session.specs.declared.Opened.{Opened}
+use Rattle.receiver.specs.declared.Datagram.{Datagram}
+use Rattle.receiver.specs.Feed.{nothingKept, consumer, Whole, sessionOf, tell, datagramWith, noDatagram, Calls}
+use Rattle.receiver.specs.Promises.{streamOf, FedInTurn, answersFor, sighting, sightings, shiftOf, Exact, Demand2, Stands, Carry, Demand3}
+use Rattle.session.proofs.Opening.{fresh-sound, opened}
+use Rattle.receiver.proofs.Meanings.{SafeOf}
+use Rattle.receiver.proofs.Keeping.{kept}
+use Rattle.receiver.proofs.Agreement.{Like, StateRun, run-of-states, run-of-sessions}
+use Rattle.receiver.proofs.EachCall.{not-refused, call-kept, empty-call}
+use Rattle.receiver.proofs.Turns.{fed-unsound, fed-over, fed-past}
+use Rattle.receiver.proofs.AxisHistory.{axisAfter, after-kept, axisThen, total-then, double-then, then-bound, sighting-at, sightings-length, alone}
+
+module _ (u : Setup) (ok : judged u ≡ Accepted) where
+  -- the session that opening gives is that of the fresh state
+  freshState : Whole
+  freshState = record { scan = calls.fresh; carried = nothingKept }
+
+  opens : opening u .session ≡ sessionOf u freshState
+  unfolding freshOf freshState
+  opens = ap (λ (o : Opened). o .session) (opened u ok)
+
+  fresh-state-safe : SafeOf u freshState
+  unfolding freshState
+  fresh-state-safe = fresh-safe (consumer u) (verdictOf u) (isDatagram u) (heldRule (u .identifier) (lengthOf u)) limits (lawful u ok) (kept u ok)
+
+  module _ {ps : List (List ℕ)} {os : List Datagram} {rs : List Report} {t : Session} (c : FedInTurn u ps os rs t) where
+    state-run : (t′ : Whole) × Like u ok t′ t × StateRun u ok freshState ps os rs t′
+    state-run = run-of-sessions u ok (subst (λ (s : Session). Calls s ps os rs t) opens c) fresh-state-safe
+
+    end-state : Whole
+    end-state = state-run .0
+
+    delivered : Delivered (consumer u) (verdictOf u) (isDatagram u) (heldRule (u .identifier) (lengthOf u)) limits ps os rs end-state
+    unfolding freshState end-state
+    delivered =
+        always-delivered (consumer u) (verdictOf u) (isDatagram u) (heldRule (u .identifier) (lengthOf u)) limits (lawful u ok) (kept u ok)
+        (state-run .2)
+
+    is-session : t ≡ sessionOf u end-state
+    unfolding end-state
+    is-session = state-run .1 .same
+
+    fed-stream : t .fed ≡ length (streamOf ps)
+    fed-stream = ap (λ (s : Session). s .fed) is-session ∙ delivered .fed
+
+    answers : (es : List (List ℕ)) → Among (isDatagram u) (streamOf ps) es → os ≡ answersFor u es
+    answers es a = delivered .handed-out ∙ ap (answersFor u) (sym (delivered .only es a))
+
+    handed-of : (es : List (List ℕ)) → Among (isDatagram u) (streamOf ps) es → end-state .scan .handed ≡ lengthOf u * length es
+    handed-of es a =
+        delivered .handed
+        ∙ ap (λ (ds : List (List ℕ)). length (joined ds)) (sym (delivered .only es a))
+        ∙ joined-length (lengthOf u) (shaped u ok .long) a
+
+    bytes-sum : lengthOf u * length os + t .passed + t .count ≡ t .fed
+    bytes-sum =
+        let es = delivered .datagrams in
+        let n : length os ≡ length es = ap length (delivered .handed-out) ∙ length-told (consumer u) nothingKept es in
+        let h : lengthOf u * length os ≡ end-state .scan .handed = ap (λ (m : ℕ). lengthOf u * m) n ∙ sym (handed-of es (delivered .among)) in
+        omega (
+          arith,
+          h,
+          delivered .sum,
+          ap (λ (s : Session). s .passed) is-session,
+          ap (λ (s : Session). s .count) is-session,
+          ap (λ (s : Session). s .fed) is-session,
+        )
+
+    -- 2 ^ 34 / 18 datagrams at most
+    few : (es : List (List ℕ)) → Among (isDatagram u) (streamOf ps) es → length es ≤ 2 ^ 30
+    few es a =
+        omega (
+          arith,
+          handed-of es a,
+          delivered .sum,
+          sound-most,
+          mul-le-mul-right (length es) (accepted-length u ok .0),
+        )
+      where
+        sound-most : end-state .scan .fed ≤ 2 ^ 34
+        sound-most = unfold end-state in state-run .1 .safe .scan .most
+
+    -- ---- doubles
+
+    module _ (es : List (List ℕ)) (a : Among (isDatagram u) (streamOf ps) es) (i : ℕ) (l : i < length es) (group axis : ℕ) (h : group < 3) (k : axis < 3) where
+      -- the answer at the place, and the axis in it
+      answer : getD os i noDatagram ≡ getD (answersFor u es) i noDatagram
+      answer = ap (λ (l : List Datagram). getD l i noDatagram) (answers es a)
+
+      small : natAbs (axisThen u group axis h k es i .total) ≤ 2 ^ 53
+      small = omega (arith, then-bound u group axis h k es i l, few es a)
+
+      total-in : totalAt (getD os i noDatagram .totals) group axis ≡ totalOf (axisThen u group axis h k es i)
+      total-in = ap (λ (o : Datagram). totalAt (o .totals) group axis) answer ∙ total-then u group axis h k es i l
+
+      double-in : doubleAt (getD os i noDatagram .doubles) group axis ≡ totalDouble (axisThen u group axis h k es i) (shiftOf u group)
+      double-in = ap (λ (o : Datagram). doubleAt (o .doubles) group axis) answer ∙ double-then u group axis h k es i l
+
+      total-value :
+          HasValue (doubleAt (getD os i noDatagram .doubles) group axis) (negative (totalAt (getD os i noDatagram .totals) group axis .steps))
+          (natAbs (totalAt (getD os i noDatagram .totals) group axis .steps)) (2 ^ shiftOf u group)
+      total-value =
+          subst (λ (x : Float). HasValue x (negative (totalAt (getD os i noDatagram .totals) group axis .steps)) (natAbs (totalAt (getD os i noDatagram .totals) group axis .steps)) (2 ^ shiftOf u group)) (sym double-in)
+          (subst (λ (z : ℤ). HasValue (totalDouble (axisThen u group axis h k es i) (shiftOf u group)) (negative z) (natAbs z) (2 ^ shiftOf u group))
+          (sym (ap (λ (x : Total). x .steps) total-in))
+          (subst (λ (n : ℕ). HasValue (totalDouble (axisThen u group axis h k es i) (shiftOf u group)) (negative (axisThen u group axis h k es i .total)) (natAbs (axisThen u group axis h k es i .total)) (2 ^ n))
+          (accepted-shift u ok group h)
+          (total-exact (axisThen u group axis h k es i) (shiftOf u group) small)))
+
+      abbrev d : List ℕ
+      d = getD es i []
+
+      values-in : valuesFor (getD os i noDatagram .values) group ≡ valuesAt u (fieldsOf (u .identifier) d .readings) group
+      unfolding tell datagramWith
+      values-in =
+          ap (λ (o : Datagram). valuesFor (o .values) group) (answer ∙ told-at (consumer u) nothingKept es i noDatagram l)
+          ∙ values-at u (fieldsOf (u .identifier) d .readings) group h
+
+      reading-small : natAbs (sighting u group axis d .reading) ≤ 2 ^ 31
+      reading-small =
+          let b = datagram-parts u d (among-each a i l) .0 in
+          omega (arith, abs-of-range (sighting u group axis d .reading) (fields-fit (u .identifier) d b .readings group axis))
+
+      value-in :
+          getD (doublesIn (valuesFor (getD os i noDatagram .values) group)) axis plusZero
+          ≡ quotient (sighting u group axis d .reading) (knownShift (shiftOf u group))
+      value-in =
+          ap (λ (v : Values). getD (doublesIn v) axis plusZero) values-in
+          ∙ ap (λ (l : List Float). getD l axis plusZero) (values-told u (fieldsOf (u .identifier) d .readings) group .doubles)
+          ∙ each
+          (λ (n : ℕ).
+          getD
+          (quotient (sighting u group 0 d .reading) (knownShift (shiftOf u group)) ∷
+          quotient (sighting u group 1 d .reading) (knownShift (shiftOf u group)) ∷
+          quotient (sighting u group 2 d .reading) (knownShift (shiftOf u group)) ∷
+          [])
+          n plusZero
+          ≡ quotient (sighting u group n d .reading) (knownShift (shiftOf u group)))
+          refl refl refl axis k
+
+      exact-at : Exact u d (getD os i noDatagram) group axis
+      exact-at =
+          record {
+            unit =
+                ap unitOf values-in ∙ values-told u (fieldsOf (u .identifier) d .readings) group .unit ∙ accepted-unit u ok group h;
+            value =
+                subst (λ (x : Float). HasValue x (negative (sighting u group axis d .reading)) (natAbs (sighting u group axis d .reading)) (2 ^ shiftOf u group)) (sym value-in)
+                (subst (λ (n : ℕ). HasValue (quotient (sighting u group axis d .reading) (knownShift (shiftOf u group))) (negative (sighting u group axis d .reading)) (natAbs (sighting u group axis d .reading)) (2 ^ n))
+                (accepted-shift u ok group h)
+                (reading-exact (sighting u group axis d .reading) (shiftOf u group) reading-small));
+            total = total-value;
+          }
+
+      -- ---- the change of the true value
+
+      module _ (keep : keeps u group ≡ true) (fine : ℕ) (some : 0 < fine) (ts : List ℤ) (C : Carry fine (sightings u group axis es) ts)
+          (fit : sighting u group axis d .fit ≡ true) where
+        ss : List Sighting
+        ss = sightings u group axis es
+
+        fit-there : getD ss i none .fit ≡ true
+        unfolding ss
+        fit-there = ap (λ (s : Sighting). s .fit) (sighting-at u group axis es i l) ∙ fit
+
+        there : i < length ss
+        unfolding ss
+        there = omega (arith, sightings-length u group axis es)
+
+        stands : totals.Stands fine (getD ts 0 (pos 0)) (getD ts (fitBefore ss i) (pos 0)) (axisThen u group axis h k es i)
+        unfolding ss
+        stands =
+            subst (totals.Stands fine (getD ts 0 (pos 0)) (getD ts (fitBefore ss i) (pos 0)))
+            (sym (ap (λ (b : Bool). axisAfter b noAxis (take (suc i) ss)) keep ∙ after-kept noAxis (take (suc i) ss)))
+            (kept-at-each fine some noAxis 0 refl (omega arith) ss ts (omega (arith, few es a, sightings-length u group axis es)) (C .carried) (C .close)
+            i there fit-there)
+
+        change-at :
+            (n : ℕ) × (n ≡ fitBefore (sightings u group axis es) i) × (n < length ts)
+            × (sighting u group axis d .reading ≡ readingOf fine (getD ts n (pos 0)))
+            × Stands u group axis fine (getD ts 0 (pos 0)) (getD ts n (pos 0)) (getD os i noDatagram)
+        unfolding ss
+        change-at =
+            let p = carried-at (readingOf fine) ss ts (C .carried) i there fit-there in
+            let steps = ap (λ (x : Total). x .steps) total-in in (
+              fitBefore ss i,
+              refl,
+              p .0,
+              ap (λ (s : Sighting). s .reading) (sym (sighting-at u group axis es i l)) ∙ p .1,
+              record {
+                begun = ap (λ (x : Total). x .begun) total-in ∙ stands .begun;
+                exact = steps ∙ stands .exact;
+                near =
+                    subst (λ (z : ℤ). natAbs (z *ℤ pos fine -ℤ (getD ts (fitBefore ss i) (pos 0) -ℤ getD ts 0 (pos 0))) < fine) (sym steps)
+                    (stands .near);
+                double = total-value;
+              },
+            )
+
+  -- ---- each true value is carried by one of the datagrams
+
+  all-carried-at :
+      (es : List (List ℕ)) (group axis fine : ℕ) (ts : List ℤ) → Carry fine (sightings u group axis es) ts → (k : ℕ) → k < length ts
+      → (i : ℕ) × (i < length es) × (sighting u group axis (getD es i []) .fit ≡ true) × (fitBefore (sightings u group axis es) i ≡ k)
+  all-carried-at es group axis fine ts C k h =
+      let ss = sightings u group axis es in
+      let n : length (fitReadings ss) ≡ length ts = ap length (C .carried) ∙ length-map ts (readingOf fine) in
+      let p = place-of ss k (omega arith) in
+      let l : p .0 < length es = omega (arith, p .1, sightings-length u group axis es) in
+      (p .0, l, ap (λ (s : Sighting). s .fit) (sym (sighting-at u group axis es (p .0) l)) ∙ p .2, p .3)
+
+  -- ---- runs
+
+  a-run : (ps : List (List ℕ)) → (os : List Datagram) × (rs : List Report) × (t : Session) × FedInTurn u ps os rs t
+  unfolding freshState
+  a-run ps =
+      let r = always-run (consumer u) (verdictOf u) (isDatagram u) (heldRule (u .identifier) (lengthOf u)) limits (lawful u ok) (kept u ok) ps in
+      let s = run-of-states u ok (r .3) fresh-state-safe in
+      (r .0, r .1, s .0, subst (λ (x : Session). Calls x ps (r .0) (r .1) (s .0)) (sym opens) (s .2))
+
+  one-run :
+      {ps : List (List ℕ)} {os os′ : List Datagram} {rs rs′ : List Report} {t t′ : Session}
+      → FedInTurn u ps os rs t → FedInTurn u ps os′ rs′ t′ → (os ≡ os′) × (rs ≡ rs′) × (t ≡ t′)
+  unfolding freshState end-state
+  one-run c c′ =
+      let r = run-one (consumer u) (verdictOf u) (isDatagram u) (heldRule (u .identifier) (lengthOf u)) limits (lawful u ok) (kept u ok)
+      (state-run c .2) (state-run c′ .2) fresh-state-safe in
+      (r .0, r .1, is-session c ∙ ap (sessionOf u) (r .2) ∙ sym (is-session c′))
+
+  pub demand3 : Demand3 u
+  demand3 =
+      record {
+        opened = ap (λ (o : Opened). o .answer) (opened u ok);
+        fed = a-run;
+        once = λ c c′. one-run c c′;
+        reported = λ c. (
+          delivered c .reported,
+          subst NoTen (sym (delivered c .reported)) (reports-no-ten limits 0 _),
+          fed-stream c,
+        );
+        streams = λ v h. let r = every-stream limits (omega arith) v h in (r .0, r .2);
+        handed-out = λ c es a. answers c es a;
+        change = λ c es a group axis h k keep fine some ts C i l fit. change-at c es a i l group axis h k keep fine some ts C fit;
+        all-carried = all-carried-at;
+      }
+
+  pub demand2 : Demand2 u
+  demand2 =
+      let M = lawful u ok in
+      record {
+        parted =
+            λ v. (
+              scan (verdictOf u) v .datagrams,
+              scan-among (verdictOf u) (isDatagram u) (M .follows) (M .prompt) v,
+              λ ds a. among-scan (verdictOf u) (isDatagram u) (M .follows) (M .prompt) a,
+            );
+        handed-out = λ c es a. answers c es a;
+        exact = λ c es a i l group axis h k. exact-at c es a i l group axis h k;
+        alone = λ group axis h k ds es e i. alone u group axis h k ds es e i;
+        bytes = λ c. (fed-stream c, bytes-sum c);
+        opened = ap (λ (o : Opened). isSound (o .session)) (opened u ok) ∙ fresh-sound u ok;
+        each-call = λ s e p. call-kept s e p;
+        none-taken = λ s e h. empty-call s e h;
+        ten = λ s p e. fed-unsound s p e;
+        eleven = λ s p e h. fed-over s p e h;
+        twelve = λ s p e h k. fed-past s p e h k;
+        no-other = λ s p e h k n q. not-refused s p e h k n q;
+      }

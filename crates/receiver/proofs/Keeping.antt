@@ -1,0 +1,42 @@
+-- What refusal 10 asks of what a session keeps stands at the start, and after every acceptable datagram.
+-- Assumes nothing.
+use Prim.Native.Nat.{ℕ, _+_}
+use mathlib.Core.Path.{_≡_, sym, subst}
+use mathlib.Core.Bool.{Bool, true}
+use mathlib.Core.List.{List}
+use native.Mathlib.Nat.{mul-add, mul-one, mul-zero}
+use native.Mathlib.Numerals.{add-one}
+use native.Mathlib.Omega.{arith}
+use lib.ListN.{length}
+use Rattle.setup.specs.Setup.{judged, lengthOf}
+use Rattle.setup.specs.declared.Setup.{Setup}
+use Rattle.setup.specs.declared.Judgement.the-variants.{Accepted}
+use Rattle.wire.specs.Fields.{fieldsOf}
+use Rattle.wire.proofs.FieldRanges.{fields-fit}
+use Rattle.scan.specs.Carry.{Keeps}
+use Rattle.search.specs.Search.{isDatagram}
+use Rattle.session.specs.Session.{axesRight}
+use Rattle.receiver.specs.Feed.{Kept, axesAfter, keptNext, keptRight, nothingKept, consumer}
+use Rattle.session.proofs.AxisLaws.{axes-step, none-right}
+use Rattle.search.proofs.ByteLists.{datagram-parts}
+use Rattle.search.proofs.Datagrams.{shaped}
+use Rattle.receiver.proofs.Meanings.{kept-parts, parts-kept}
+
+module _ (u : Setup) (ok : judged u ≡ Accepted) where
+  start-right : keptRight u 0 nothingKept ≡ true
+  start-right = parts-kept u 0 nothingKept (omega (arith, mul-zero (lengthOf u))) (none-right u)
+
+  next-right :
+      (n : ℕ) (x : Kept) (first : Bool) (d : List ℕ) → isDatagram u d ≡ true → keptRight u n x ≡ true
+      → keptRight u (n + length d) (keptNext u first x d) ≡ true
+  unfolding keptNext
+  next-right n x first d a e =
+      let p = kept-parts u n x e in
+      let c = fieldsOf (u .identifier) d in
+      let l : length d ≡ lengthOf u = shaped u ok .long d a in
+      let g = axes-step u (x .datagrams) (x .axes) (c .readings) (c .statuses) (fields-fit (u .identifier) d (datagram-parts u d a .0) .readings) (p .1) in
+      parts-kept u (n + length d) (keptNext u first x d) (omega (arith, p .0, mul-add (lengthOf u) (x .datagrams) 1, mul-one (lengthOf u)))
+      (subst (λ (k : ℕ). axesRight u k (axesAfter u (x .axes) c) ≡ true) (sym (add-one (x .datagrams))) g)
+
+  pub kept : Keeps (consumer u) (isDatagram u)
+  kept = record { at-start = start-right; at-step = λ n x d a e. next-right n x _ d a e }

@@ -1,0 +1,86 @@
+-- `receiver::datagram_of` meets its contract. Assumes nothing.
+use mathlib.Core.Path.{_≡_}
+use lib.ListN.{length}
+use Rattle.receiver.specs.Feed.{datagramWith}
+use Rattle.receiver.proofs.Turns.{flagged-three}
+use borrow.Author.Needs.{needs}
+use Rattle.receiver.proofs.datagram_of.Statement.{statement}
+use Rattle.receiver.proofs.datagram_of.Tie as tie
+
+three : (c : tie.Start) → length (c .args .fields .statuses) ≡ 3
+three c = search needs
+
+array-read-flagged-channels : tie.Need-array-read-flagged-channels
+array-read-flagged-channels c = search needs
+
+flagged-channels-requires : tie.Need-flagged-channels-requires
+flagged-channels-requires c κs = search needs
+
+array-read-flagged-channels-2 : tie.Need-array-read-flagged-channels-2
+array-read-flagged-channels-2 c = search needs
+
+flagged-channels-requires-2 : tie.Need-flagged-channels-requires-2
+flagged-channels-requires-2 c κs = search needs
+
+array-read-flagged-channels-3 : tie.Need-array-read-flagged-channels-3
+array-read-flagged-channels-3 c = search needs
+
+flagged-channels-requires-3 : tie.Need-flagged-channels-requires-3
+flagged-channels-requires-3 c κs = search needs
+
+group-values-requires : tie.Need-group-values-requires
+group-values-requires c κs = search needs
+
+gap-between-requires : tie.Need-gap-between-requires
+gap-between-requires c κs = search needs
+
+totals-of-requires : tie.Need-totals-of-requires
+totals-of-requires c κs = search needs
+
+total-doubles-requires : tie.Need-total-doubles-requires
+total-doubles-requires c κs = search needs
+
+array-copy-out-gyro : tie.Need-array-copy-out-gyro
+array-copy-out-gyro c = search needs
+
+array-copy-out-accelerometer : tie.Need-array-copy-out-accelerometer
+array-copy-out-accelerometer c = search needs
+
+array-copy-out-inclinometer : tie.Need-array-copy-out-inclinometer
+array-copy-out-inclinometer c = search needs
+
+returns : tie.Need-returns
+unfolding datagramWith
+returns c =
+    let s = c .before .before .before in
+    let v = s .before .before .before in
+    let start = v .before .before .before .before .before in
+    rw (
+      v .before .before .before .flagged-channels .ensures,
+      v .before .before .flagged-channels2 .ensures,
+      v .before .flagged-channels3 .ensures,
+      v .group-values .ensures,
+      s .before .before .gap-between .ensures,
+      s .before .totals-of .ensures,
+      s .total-doubles .ensures,
+      flagged-three (start .args .fields .statuses) (three start),
+    )
+
+pub datagram-of-spec : {M : Type 1} → statement M
+datagram-of-spec =
+    tie.close
+    (tie.spec
+    array-read-flagged-channels
+    flagged-channels-requires
+    array-read-flagged-channels-2
+    flagged-channels-requires-2
+    array-read-flagged-channels-3
+    flagged-channels-requires-3
+    group-values-requires
+    gap-between-requires
+    totals-of-requires
+    total-doubles-requires
+    array-copy-out-gyro
+    array-copy-out-accelerometer
+    array-copy-out-inclinometer
+    returns)

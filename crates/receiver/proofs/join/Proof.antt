@@ -1,0 +1,29 @@
+-- `receiver::join` meets its contract. Assumes nothing.
+use Prim.Native.Nat.{ℕ}
+use mathlib.Core.Path.{refl, ap, _∙_}
+use mathlib.Core.List.{List, []}
+use native.Mathlib.Omega.{arith}
+use lib.ListN.{length}
+use lib.Seq.{sets}
+use Rattle.receiver.proofs.Padding.{padded-sets}
+use borrow.Author.Needs.{needs}
+use Rattle.receiver.proofs.join.Statement.{statement}
+use Rattle.receiver.proofs.join.Tie as tie
+
+put-requires : tie.Need-put-requires
+put-requires c κs = search needs
+
+put-requires-2 : tie.Need-put-requires-2
+put-requires-2 c κs = search needs
+
+returns : tie.Need-returns
+returns c =
+    let a = c .before .before .before .before .args in
+    let h = a .held .now in
+    let p = a .piece .now in
+    c .put2 .ensures
+    ∙ ap (λ (b : List ℕ). sets b (length h) p) (c .before .put .ensures ∙ padded-sets 128 [] h 0 refl (omega arith))
+    ∙ padded-sets 128 h p (length h) refl (omega arith)
+
+pub join-spec : {M : Type 1} → statement M
+join-spec = tie.close (tie.spec put-requires put-requires-2 returns)

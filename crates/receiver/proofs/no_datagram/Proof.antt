@@ -1,0 +1,32 @@
+-- `receiver::no_datagram` meets its contract. Assumes nothing.
+use Rattle.receiver.specs.Feed.{noDatagram}
+use borrow.Author.Needs.{needs}
+use Rattle.receiver.proofs.no_datagram.Statement.{statement}
+use Rattle.receiver.proofs.no_datagram.Tie as tie
+
+no-fields-requires : tie.Need-no-fields-requires
+no-fields-requires c κs = search needs
+
+no-values-requires : tie.Need-no-values-requires
+no-values-requires c κs = search needs
+
+no-totals-requires : tie.Need-no-totals-requires
+no-totals-requires c κs = search needs
+
+no-doubles-requires : tie.Need-no-doubles-requires
+no-doubles-requires c κs = search needs
+
+returns : tie.Need-returns
+unfolding noDatagram
+returns c =
+    rw (
+      c .before .before .before .no-fields .ensures,
+      c .before .before .no-values .ensures,
+      c .before .no-totals .ensures,
+      c .no-doubles .ensures,
+    )
+
+pub no-datagram-spec : {M : Type 1} → statement M
+no-datagram-spec =
+    tie.close
+    (tie.spec no-fields-requires no-values-requires no-totals-requires no-doubles-requires returns)

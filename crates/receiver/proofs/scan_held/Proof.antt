@@ -1,0 +1,307 @@
+-- `receiver::scan_held` meets its contract: the scan of the bytes held and the front of the piece, and then of the rest of the piece. Assumes nothing.
+use Prim.Native.Nat.{ℕ, _+_, _-_, _≤_}
+use mathlib.Core.Path.{_≡_, sym, ap, _∙_}
+use mathlib.Core.List.{List, _++_}
+use native.Mathlib.Omega.{arith}
+use lib.ListN.{length, take, drop, length-append, length-drop}
+use lib.Seq.{length-take-le, take-all}
+use Rattle.setup.specs.Setup.{lengthOf}
+use Rattle.setup.proofs.Refusals.{accepted-length}
+use Rattle.scan.specs.Scan.{first, later}
+use Rattle.search.specs.Search.{verdictOf, placeOf}
+use Rattle.search.proofs.Places.{to-end, part-of, IsWhole, IsOpen, found-whole, found-open}
+use Rattle.session.specs.Session.{heldBytes}
+use Rattle.receiver.specs.Turns.{turnAtOnce}
+use Rattle.receiver.proofs.Joining.{whole-joined, whole-taken, open-joined}
+use Rattle.receiver.proofs.Padding.{padded-front}
+use Rattle.receiver.proofs.Turns.{turn-found, turn-held, room-less}
+use borrow.Author.Needs.{needs}
+use Rattle.receiver.proofs.scan_held.Statement.{statement}
+use Rattle.receiver.proofs.scan_held.Tie as tie
+
+held-long : (c : tie.Start) → length (c .args .session .held) ≡ 64
+held-long c = search needs
+
+-- a datagram is of 65 bytes at most, so at most 64 are held
+size-most : (c : tie.Start) → c .args .size ≤ 65
+size-most c = omega (arith, accepted-length (c .args .session .setup) (c .pre .0) .1, c .pre .1)
+
+count-within : (c : tie.Start) → c .args .session .count ≤ length (c .args .session .held)
+count-within c = omega (arith, held-long c, size-most c, c .pre .2)
+
+held-count : (c : tie.Start) → length (heldBytes (c .args .session)) ≡ c .args .session .count
+held-count c = length-take-le (c .args .session .count) (c .args .session .held) (count-within c)
+
+-- the part of the piece that is searched with the bytes held
+part-within : (c : tie.After-least) → c .least .result ≤ length (c .before .before .before .before .args .piece .now)
+part-within c = omega (arith, c .least .ensures)
+
+front-length :
+    (c : tie.After-least)
+    → let a = c .before .before .before .before .args in
+    length (heldBytes (a .session) ++ take (c .least .result) (a .piece .now)) ≡ a .session .count + c .least .result
+front-length c =
+    let a = c .before .before .before .before .args in
+    omega (
+      arith,
+      length-append (heldBytes (a .session)) (take (c .least .result) (a .piece .now)),
+      held-count (c .before .before .before .before),
+      length-take-le (c .least .result) (a .piece .now) (part-within c),
+    )
+
+front-most : (c : tie.After-least) → c .before .before .before .before .args .session .count + c .least .result ≤ 128
+front-most c =
+    let s = c .before .before .before .before in
+    omega (arith, c .least .ensures, size-most s, s .pre .2)
+
+-- the window is the bytes held and that part
+window-is :
+    (c : tie.After-join)
+    → let a = c .before .before .before .before .before .before .before .args in
+    let m = c .before .before .before .least .result in
+    take (a .session .count + m) (c .join .result) ≡ heldBytes (a .session) ++ take m (a .piece .now)
+window-is c =
+    let a = c .before .before .before .before .before .before .before .args in
+    let m = c .before .before .before .least .result in
+    ap (take (a .session .count + m)) (c .join .ensures)
+    ∙ padded-front 128 (a .session .count + m) (heldBytes (a .session) ++ take m (a .piece .now)) (front-length (c .before .before .before))
+
+window-length :
+    (c : tie.After-join)
+    → let n = c .before .before .before .before .before .before .before .args .session .count + c .before .before .before .least .result in length (take n (c .join .result)) ≡ n
+window-length c = ap length (window-is c) ∙ front-length (c .before .before .before)
+
+-- what the place that find returns tells
+whole-arm :
+    (c : tie.After-known-told)
+    → let a = c .before .before .before .before .before .before .before .before .before .before .before .before .args in
+    IsWhole (a .session .setup) (heldBytes (a .session) ++ take (c .before .before .before .before .before .before .before .before .least .result) (a .piece .now)) (c .before .at .given .0 .0)
+whole-arm c =
+    let s = c .before .before .before .before .before .before .before .before .before .before .before .before in
+    let a = s .args in
+    found-whole (a .session .setup) (s .pre .0) (heldBytes (a .session) ++ take (c .before .before .before .before .before .before .before .before .least .result) (a .piece .now)) (c .before .at .given .0 .0)
+    (ap (λ (l : List ℕ). placeOf (first (verdictOf (a .session .setup)) l)) (sym (window-is (c .before .before .before .before .before))) ∙ sym (c .before .before .before .find .ensures) ∙ c .before .at .given .1)
+
+open-arm :
+    (c : tie.After-known-told2)
+    → let a = c .before .before .before .before .before .before .before .before .before .before .before .before .args in
+    IsOpen (a .session .setup) (heldBytes (a .session) ++ take (c .before .before .before .before .before .before .before .before .least .result) (a .piece .now)) (c .before .at2 .given .0 .0)
+open-arm c =
+    let s = c .before .before .before .before .before .before .before .before .before .before .before .before in
+    let a = s .args in
+    found-open (a .session .setup) (s .pre .0) (heldBytes (a .session) ++ take (c .before .before .before .before .before .before .before .before .least .result) (a .piece .now)) (c .before .at2 .given .0 .0)
+    (ap (λ (l : List ℕ). placeOf (first (verdictOf (a .session .setup)) l)) (sym (window-is (c .before .before .before .before .before))) ∙ sym (c .before .before .before .find .ensures) ∙ c .before .at2 .given .1)
+
+-- the place lies in the window
+whole-within :
+    (c : tie.After-known-told)
+    → let a = c .before .before .before .before .before .before .before .before .before .before .before .before .args in c .before .at .given .0 .0 + a .size ≤ a .session .count + c .before .before .before .before .before .before .before .before .least .result
+whole-within c = omega (arith, whole-arm c .within, front-length (c .before .before .before .before .before .before .before .before), c .before .before .before .before .before .before .before .before .before .before .before .before .pre .1)
+
+open-within :
+    (c : tie.After-known-told2)
+    → c .before .at2 .given .0 .0 ≤ c .before .before .before .before .before .before .before .before .before .before .before .before .args .session .count + c .before .before .before .before .before .before .before .before .least .result
+open-within c = omega (arith, open-arm c .within, front-length (c .before .before .before .before .before .before .before .before))
+
+-- where the piece goes on behind the window, all bytes held are passed over
+behind : (c : tie.Else1) → c .before .before .before .before .before .before .before .before .before .before .before .before .before .args .session .count ≤ c .before .before .at2 .given .0 .0
+behind c =
+    let s = c .before .before .before .before .before .before .before .before .before .before .before .before .before in
+    omega (arith, open-arm (c .before) .short, front-length (c .before .before .before .before .before .before .before .before .before), c .before .before .before .before .before .before .before .before .before .least .ensures, s .pre .1, s .pre .2, c .if1 .left)
+
+sub-least : tie.Need-sub-least
+sub-least c = search needs
+
+least-requires : tie.Need-least-requires
+least-requires c κs = search needs
+
+array-share-prefix-held : tie.Need-array-share-prefix-held
+array-share-prefix-held c = count-within (c .before .before .before .before)
+
+slice-aggregate-join : tie.Need-slice-aggregate-join
+slice-aggregate-join c = sym (held-count (c .before .before .before .before .before))
+
+slice-aggregate-join-2 : tie.Need-slice-aggregate-join-2
+slice-aggregate-join-2 c =
+    let s = c .before .before in
+    sym (length-take-le (s .least .result) (s .before .before .before .before .args .piece .now) (part-within s))
+
+join-requires : tie.Need-join-requires
+join-requires c κs =
+    let s = c .before .before in
+    omega (arith, held-count (s .before .before .before .before), front-most s, length-take-le (s .least .result) (s .before .before .before .before .args .piece .now) (part-within s))
+
+add-n : tie.Need-add-n
+add-n c = omega (arith, front-most (c .before .before .before))
+
+array-share-prefix-joined : tie.Need-array-share-prefix-joined
+array-share-prefix-joined c = omega (arith, front-most (c .before .before .before))
+
+slice-aggregate-window : tie.Need-slice-aggregate-window
+slice-aggregate-window c = sym (window-length (c .before))
+
+find-requires : tie.Need-find-requires
+find-requires c κs = search needs
+
+enum-known-at : tie.Need-enum-known-at
+enum-known-at c = search needs
+
+add-end : tie.Need-add-end
+add-end c = omega (arith, whole-within c, front-most (c .before .before .before .before .before .before .before .before))
+
+sub-hand-out : tie.Need-sub-hand-out
+sub-hand-out c = search needs
+
+sub-hand-out-2 : tie.Need-sub-hand-out-2
+sub-hand-out-2 c = search needs
+
+part-hand-out-start : tie.Need-part-hand-out-start
+part-hand-out-start c = search needs
+
+part-hand-out-end : tie.Need-part-hand-out-end
+part-hand-out-end c = omega (arith, whole-within c, window-length (c .before .before .before .before .before))
+
+hand-out-requires : tie.Need-hand-out-requires
+hand-out-requires c κs =
+    let s = c .before .before .before .before .before .before .before .before .before .before .before .before .before in
+    let a = s .args in
+    let at = c .before .before .at .given .0 .0 in
+    let n = 200 + length (a .piece .now) in
+    let w = whole-within (c .before) in
+    let m = front-most (c .before .before .before .before .before .before .before .before .before) in (
+      room-less (a .session) n at (omega (arith, w, m)) (s .pre .3),
+      room-less (a .session) n (at + a .size - a .session .count) (omega (arith, w, m)) (s .pre .3),
+    )
+
+enum-known-at-2 : tie.Need-enum-known-at-2
+enum-known-at-2 c = search needs
+
+sub-hold : tie.Need-sub-hold
+sub-hold c = omega (arith, open-within (c .before), window-length (c .before .before .before .before .before .before))
+
+part-hold-start : tie.Need-part-hold-start
+part-hold-start c = omega (arith, open-within (c .before), window-length (c .before .before .before .before .before .before))
+
+part-hold-end : tie.Need-part-hold-end
+part-hold-end c = search needs
+
+hold-requires : tie.Need-hold-requires
+hold-requires c κs =
+    let s = c .before .before .before .before .before .before .before .before .before .before .before .before .before .before in
+    let a = s .args in
+    let at = c .before .before .before .at2 .given .0 .0 in
+    let n = 200 + length (a .piece .now) in
+    let window = take (a .session .count + c .before .before .before .before .before .before .before .before .before .before .least .result) (c .before .before .before .before .before .before .before .join .result) in
+    let w = open-within (c .before .before) in
+    let m = front-most (c .before .before .before .before .before .before .before .before .before .before) in (
+      omega (
+        arith,
+        ap length (to-end window at),
+        length-drop at window,
+        window-length (c .before .before .before .before .before .before .before),
+        front-length (c .before .before .before .before .before .before .before .before .before .before),
+        open-arm (c .before .before) .short,
+        accepted-length (a .session .setup) (s .pre .0) .1,
+      ),
+      room-less (a .session) n at (omega (arith, w, m)) (s .pre .3),
+      room-less (a .session) n (length (a .piece .now)) (omega arith) (s .pre .3),
+    )
+
+sub-scan-on : tie.Need-sub-scan-on
+sub-scan-on c = behind c
+
+scan-on-requires : tie.Need-scan-on-requires
+scan-on-requires c κs =
+    let s = c .before .before .before .before .before .before .before .before .before .before .before .before .before in
+    let a = s .args in
+    let at = c .before .before .at2 .given .0 .0 in
+    let w = open-within (c .before) in
+    let m = front-most (c .before .before .before .before .before .before .before .before .before) in (
+      s .pre .0,
+      s .pre .1,
+      omega (arith, w, part-within (c .before .before .before .before .before .before .before .before .before)),
+      room-less (a .session) (200 + length (a .piece .now)) (at + length (a .piece .now)) (omega (arith, w, m)) (s .pre .3),
+    )
+
+returns : tie.Need-returns
+returns c =
+    let s = c .before .before .before .before .before .before .before .before .before .before .before .before .before .before in
+    let a = s .args in
+    let u = a .session .setup in
+    let at = c .before .before .before .at .given .0 .0 in
+    let m = c .before .before .before .before .before .before .before .before .before .before .least .result in
+    let p = a .piece .now in
+    let h = heldBytes (a .session) in
+    let n = lengthOf u in
+    let window = take (a .session .count + m) (c .before .before .before .before .before .before .before .join .result) in
+    let w = whole-arm (c .before .before) in
+    let l = held-count s in
+    let e : at + a .size - a .session .count ≡ at + n - length h = omega (arith, l, s .pre .1) in
+    c .hand-out .ensures
+    ∙ turn-found (a .session) p (take n (drop at (h ++ take m p))) (take (at + a .size - at) (drop at window)) (drop (at + n) (h ++ take m p) ++ drop m p)
+    at (at + a .size - a .session .count) (first (verdictOf u) (h ++ p)) (whole-joined u (s .pre .0) h p m at w)
+    (e ∙ sym (whole-taken u (s .pre .0) h p m at w (omega (arith, l, s .pre .1, s .pre .2)) (part-within (c .before .before .before .before .before .before .before .before .before .before))))
+    (part-of window at (a .size) ∙ ap (λ (y : List ℕ). take (a .size) (drop at y)) (window-is (c .before .before .before .before .before .before .before)) ∙ ap (λ (k : ℕ). take k (drop at (h ++ take m p))) (s .pre .1))
+
+returns-2 : tie.Need-returns-2
+returns-2 c =
+    let a = c .before .before .before .before .before .before .before .before .before .before .before .before .before .before .before .args in
+    let u = a .session .setup in
+    let at = c .before .before .before .before .at2 .given .0 .0 in
+    let m = c .before .before .before .before .before .before .before .before .before .before .before .least .result in
+    let p = a .piece .now in
+    let h = heldBytes (a .session) in
+    let window = take (a .session .count + m) (c .before .before .before .before .before .before .before .before .join .result) in
+    let t : take m p ≡ p = take-all m p (omega (arith, c .before .before .if1 .taken)) in
+    c .hold .ensures
+    ∙ turn-held (a .session) p (drop at (h ++ take m p)) (take (length window - at) (drop at window)) at (first (verdictOf u) (h ++ p))
+    (ap (λ (y : List ℕ). first (verdictOf u) (h ++ y)) (sym t) ∙ open-arm (c .before .before .before) .scan)
+    (to-end window at ∙ ap (drop at) (window-is (c .before .before .before .before .before .before .before .before)))
+
+returns-3 : tie.Need-returns-3
+returns-3 c =
+    let s = c .before .before .before .before .before .before .before .before .before .before .before .before .before .before in
+    let a = s .args in
+    let u = a .session .setup in
+    let at = c .before .before .before .at2 .given .0 .0 in
+    let m = c .before .before .before .before .before .before .before .before .before .before .least .result in
+    let p = a .piece .now in
+    let h = heldBytes (a .session) in
+    let l = held-count s in
+    let g : first (verdictOf u) (h ++ p) ≡ later at (first (verdictOf u) (drop (at - a .session .count) p)) =
+    open-joined u (s .pre .0) h p m at (open-arm (c .before .before)) (omega (arith, l, behind (c .before))) (part-within (c .before .before .before .before .before .before .before .before .before .before))
+    ∙ ap (λ (k : ℕ). later at (first (verdictOf u) (drop (at - k) p))) l
+    in
+    c .scan-on .ensures ∙ ap (turnAtOnce (a .session) p) (sym g)
+
+pub scan-held-spec : {M : Type 1} → statement M
+scan-held-spec =
+    tie.close
+    (tie.spec
+    sub-least
+    least-requires
+    array-share-prefix-held
+    slice-aggregate-join
+    slice-aggregate-join-2
+    join-requires
+    add-n
+    array-share-prefix-joined
+    slice-aggregate-window
+    find-requires
+    enum-known-at
+    add-end
+    sub-hand-out
+    sub-hand-out-2
+    part-hand-out-start
+    part-hand-out-end
+    hand-out-requires
+    enum-known-at-2
+    sub-hold
+    part-hold-start
+    part-hold-end
+    hold-requires
+    sub-scan-on
+    scan-on-requires
+    returns
+    returns-2
+    returns-3)

@@ -1,0 +1,169 @@
+-- What the request asks of feeding (00-mission, demands 2 and 3; 01, How firmly it is promised, Totals), as types over the rules.
+-- proofs/Demands.antt has a term of Demand2 and of Demand3 for every setup that is not refused.
+use Prim.Native.Nat.{ℕ, _+_, _*_, _^_, _≤_, _<_}
+use mathlib.Core.Bool.{true, false}
+use mathlib.Core.List.{List, [], map}
+use mathlib.Core.Path.{_≡_}
+use lib.IntN.{ℤ, pos, natAbs, _-ℤ_, _*ℤ_}
+use lib.Ieee.Exact.{HasValue}
+use lib.ListN.{length, getD}
+use Rattle.integers.specs.Rounding.{floor}
+use Rattle.setup.specs.Setup.{lengthOf}
+use Rattle.setup.specs.declared.Setup.{Setup}
+use Rattle.setup.specs.declared.Judgement.the-variants.{Accepted}
+use Rattle.wire.specs.Fields.{fieldsOf}
+use Rattle.motion.specs.Doubles.{negative, plusZero, unitOf, doublesIn, valuesFor}
+use Rattle.motion.specs.Totals.{Sighting, keeps, seen, totalAt, doubleAt, fitReadings, fitBefore, readingOf, Close}
+use Rattle.scan.specs.Calls.{Report}
+use Rattle.scan.specs.Stream.{stream, reports, NoTen, Among}
+use Rattle.scan.specs.Carry.{told}
+use Rattle.search.specs.Search.{isDatagram}
+use Rattle.session.specs.Session.{limits, isSound, opening}
+use Rattle.session.specs.declared.Session.{Session}
+use Rattle.receiver.specs.declared.Datagram.{Datagram}
+use Rattle.receiver.specs.declared.Answer.the-variants.{Waiting, Refused}
+use Rattle.receiver.specs.declared.Reply.{Reply}
+use Rattle.receiver.specs.Feed.{nothingKept, consumer, noDatagram, feedOf, Calls}
+
+-- ---- what the demands speak of
+
+-- the stream: the pieces within 01's limits, joined
+abbrev pub streamOf : List (List ℕ) → List ℕ
+streamOf ps = stream limits 0 ps
+
+-- a list of pieces fed in turn to the session that opening a setup gives
+abbrev pub FedInTurn : Setup → List (List ℕ) → List Datagram → List Report → Session → Type 0
+FedInTurn u ps os rs t = Calls (opening u .session) ps os rs t
+
+module _ (u : Setup) where
+  -- what comes back with each of these datagrams, handed out in this order to a fresh session
+  abbrev pub answersFor : List (List ℕ) → List Datagram
+  answersFor ds = told (consumer u) nothingKept ds
+
+  -- what an axis of a group sees of a datagram: its own reading, and whether the group's status byte leaves it fit
+  abbrev pub sighting : ℕ → ℕ → List ℕ → Sighting
+  sighting group axis d = seen (fieldsOf (u .identifier) d .readings) (fieldsOf (u .identifier) d .statuses) group axis
+
+  abbrev pub sightings : ℕ → ℕ → List (List ℕ) → List Sighting
+  sightings group axis ds = map (sighting group axis) ds
+
+  -- the shift of a group
+  abbrev pub shiftOf : ℕ → ℕ
+  shiftOf group = getD (u .shifts) group 0
+
+-- ---- demand 2
+
+-- a refused call
+abbrev pub refusal : Session → ℕ → Reply
+refusal s n = record { answer = Refused n; taken = 0; session = s; datagram = noDatagram }
+
+-- one call on a session that 10 doesn't turn down
+pub record CallKept (s : Session) (p : List ℕ) : Type 0 where
+  -- the session that comes back isn't turned down by 10 either, and is of the same setup
+  pub sound : isSound (feedOf s p .session) ≡ true
+  pub setup : feedOf s p .session .setup ≡ s .setup
+  -- bytes fed are the bytes taken, and = datagram length × datagrams + bytes passed over + bytes held
+  pub fed : feedOf s p .session .fed ≡ s .fed + feedOf s p .taken
+  pub sum :
+      lengthOf (s .setup) * feedOf s p .session .datagrams .0 + feedOf s p .session .passed + feedOf s p .session .count
+      ≡ feedOf s p .session .fed
+
+-- what comes back with the datagram d, in the answer o: each double is its reading over 2 ^ shift, or its total over 2 ^ shift, without any rounding
+pub record Exact (u : Setup) (d : List ℕ) (o : Datagram) (group axis : ℕ) : Type 0 where
+  pub unit : unitOf (valuesFor (o .values) group) ≡ getD (u .units) group 0
+  pub value :
+      HasValue (getD (doublesIn (valuesFor (o .values) group)) axis plusZero) (negative (sighting u group axis d .reading))
+      (natAbs (sighting u group axis d .reading)) (2 ^ shiftOf u group)
+  pub total :
+      HasValue (doubleAt (o .doubles) group axis) (negative (totalAt (o .totals) group axis .steps))
+      (natAbs (totalAt (o .totals) group axis .steps)) (2 ^ shiftOf u group)
+
+pub record Demand2 (u : Setup) : Type 0 where
+  -- every stream is acceptable datagrams, whole and in order, among bytes at which none begins, in one way only
+  pub parted :
+      (v : List ℕ)
+      → (es : List (List ℕ)) × Among (isDatagram u) v es × ((ds : List (List ℕ)) → Among (isDatagram u) v ds → ds ≡ es)
+  -- these are handed out, no more and no fewer, each with what the rules give for it
+  pub handed-out :
+      {ps : List (List ℕ)} {os : List Datagram} {rs : List Report} {t : Session} → FedInTurn u ps os rs t
+      → (es : List (List ℕ)) → Among (isDatagram u) (streamOf ps) es → os ≡ answersFor u es
+  pub exact :
+      {ps : List (List ℕ)} {os : List Datagram} {rs : List Report} {t : Session} → FedInTurn u ps os rs t
+      → (es : List (List ℕ)) → Among (isDatagram u) (streamOf ps) es
+      → (i : ℕ) → i < length es → (group axis : ℕ) → group < 3 → axis < 3
+      → Exact u (getD es i []) (getD os i noDatagram) group axis
+  -- a total depends only on its own axis's readings, its group's status bytes and which datagrams were handed out
+  pub alone :
+      (group axis : ℕ) → group < 3 → axis < 3
+      → (ds es : List (List ℕ)) → sightings u group axis ds ≡ sightings u group axis es → (i : ℕ)
+      → (totalAt (getD (answersFor u ds) i noDatagram .totals) group axis ≡ totalAt (getD (answersFor u es) i noDatagram .totals) group axis)
+      × (doubleAt (getD (answersFor u ds) i noDatagram .doubles) group axis ≡ doubleAt (getD (answersFor u es) i noDatagram .doubles) group axis)
+  -- bytes fed are the stream's, and = datagram length × datagrams + bytes passed over + bytes held
+  pub bytes :
+      {ps : List (List ℕ)} {os : List Datagram} {rs : List Report} {t : Session} → FedInTurn u ps os rs t
+      → (t .fed ≡ length (streamOf ps)) × (lengthOf u * length os + t .passed + t .count ≡ t .fed)
+  -- the session that opening gives isn't turned down by 10, nor is any that a call then returns
+  pub opened : isSound (opening u .session) ≡ true
+  pub each-call : (s : Session) → isSound s ≡ true → (p : List ℕ) → CallKept s p
+  -- a piece of 0 bytes is taken and hands out nothing
+  pub none-taken :
+      (s : Session) → isSound s ≡ true → length (s .held) ≡ 64
+      → feedOf s [] ≡ record { answer = Waiting; taken = 0; session = s; datagram = noDatagram }
+  -- a call is refused by 10, else by 11, else by 12, and by nothing else; a refusal takes no bytes and returns the session as given
+  pub ten : (s : Session) (p : List ℕ) → isSound s ≡ false → feedOf s p ≡ refusal s 10
+  pub eleven : (s : Session) (p : List ℕ) → isSound s ≡ true → 4096 < length p → feedOf s p ≡ refusal s 11
+  pub twelve : (s : Session) (p : List ℕ) → isSound s ≡ true → length p ≤ 4096 → 2 ^ 34 < s .fed + length p → feedOf s p ≡ refusal s 12
+  pub no-other :
+      (s : Session) (p : List ℕ) → isSound s ≡ true → length p ≤ 4096 → s .fed + length p ≤ 2 ^ 34
+      → (n : ℕ) → feedOf s p .answer ≡ Refused n → ⊥
+
+-- ---- demand 3
+
+-- in the answer o an axis stands for the change from the true value t₀ to t, d fine units to one output step:
+-- its total is t / d rounded down minus t₀ / d rounded down, times d it differs from t - t₀ by less than d, its double is the total over 2 ^ shift
+pub record Stands (u : Setup) (group axis d : ℕ) (t₀ t : ℤ) (o : Datagram) : Type 0 where
+  pub begun : totalAt (o .totals) group axis .begun ≡ true
+  pub exact : totalAt (o .totals) group axis .steps ≡ floor t d -ℤ floor t₀ d
+  pub near : natAbs (totalAt (o .totals) group axis .steps *ℤ pos d -ℤ (t -ℤ t₀)) < d
+  pub double :
+      HasValue (doubleAt (o .doubles) group axis) (negative (totalAt (o .totals) group axis .steps))
+      (natAbs (totalAt (o .totals) group axis .steps)) (2 ^ shiftOf u group)
+
+-- Among these datagrams the fit ones carry, in order, the true values ts over d rounded down and folded, neighbours of which differ by less than (2 ^ 23 - 1) × d
+pub record Carry (d : ℕ) (ss : List Sighting) (ts : List ℤ) : Type 0 where
+  pub carried : fitReadings ss ≡ map (readingOf d) ts
+  pub close : Close d ts
+
+pub record Demand3 (u : Setup) : Type 0 where
+  -- opening answers without refusal
+  pub opened : opening u .answer ≡ Accepted
+  -- every list of pieces can be fed in turn, and in one way only
+  pub fed :
+      (ps : List (List ℕ)) → (os : List Datagram) × (rs : List Report) × (t : Session) × FedInTurn u ps os rs t
+  pub once :
+      {ps : List (List ℕ)} {os os′ : List Datagram} {rs rs′ : List Report} {t t′ : Session}
+      → FedInTurn u ps os rs t → FedInTurn u ps os′ rs′ t′ → (os ≡ os′) × (rs ≡ rs′) × (t ≡ t′)
+  -- each piece is turned down by 11 or else by 12, with no byte taken, or taken whole, by its length and the earlier ones' alone
+  pub reported :
+      {ps : List (List ℕ)} {os : List Datagram} {rs : List Report} {t : Session} → FedInTurn u ps os rs t
+      → (rs ≡ reports limits 0 ps) × NoTen rs × (t .fed ≡ length (streamOf ps))
+  -- every list of at most 2 ^ 34 bytes is the stream of some list of pieces
+  pub streams : (v : List ℕ) → length v ≤ 2 ^ 34 → (ps : List (List ℕ)) × (streamOf ps ≡ v)
+  -- exactly the stream's datagrams are handed out, in order
+  pub handed-out :
+      {ps : List (List ℕ)} {os : List Datagram} {rs : List Report} {t : Session} → FedInTurn u ps os rs t
+      → (es : List (List ℕ)) → Among (isDatagram u) (streamOf ps) es → os ≡ answersFor u es
+  -- at each of them that is fit for an axis that keeps a total, the answer stands for the change from the first true value to the one that it carries
+  pub change :
+      {ps : List (List ℕ)} {os : List Datagram} {rs : List Report} {t : Session} → FedInTurn u ps os rs t
+      → (es : List (List ℕ)) → Among (isDatagram u) (streamOf ps) es
+      → (group axis : ℕ) → group < 3 → axis < 3 → keeps u group ≡ true
+      → (d : ℕ) → 0 < d → (ts : List ℤ) → Carry d (sightings u group axis es) ts
+      → (i : ℕ) → i < length es → sighting u group axis (getD es i []) .fit ≡ true
+      → (k : ℕ) × (k ≡ fitBefore (sightings u group axis es) i) × (k < length ts)
+      × (sighting u group axis (getD es i []) .reading ≡ readingOf d (getD ts k (pos 0)))
+      × Stands u group axis d (getD ts 0 (pos 0)) (getD ts k (pos 0)) (getD os i noDatagram)
+  -- and each of the true values is carried by one of them
+  pub all-carried :
+      (es : List (List ℕ)) (group axis d : ℕ) (ts : List ℤ) → Carry d (sightings u group axis es) ts → (k : ℕ) → k < length ts
+      → (i : ℕ) × (i < length es) × (sighting u group axis (getD es i []) .fit ≡ true) × (fitBefore (sightings u group axis es) i ≡ k)

@@ -1,0 +1,363 @@
+// Feeding a session: which datagrams a piece completes, and what comes back with each (01, The scan; Status, doubles, gaps; Totals).
+ghost use mathlib.Core.Path.{_≡_};
+ghost use mathlib.Core.List.{[], _++_};
+ghost use Prim.Native.Nat.{_+_, _≤_, _<_, min};
+ghost use lib.ListN.{length, drop};
+ghost use lib.Seq.{sets};
+ghost use Rattle.setup.specs.Setup.{judged, lengthOf};
+ghost use Rattle.setup.specs.declared.Judgement.the-variants.{Accepted};
+ghost use Rattle.motion.specs.Totals.{totalsOf};
+ghost use Rattle.scan.specs.Scan.{first, later, ends, finds};
+ghost use Rattle.scan.specs.Calls.Answer.{refused};
+ghost use Rattle.search.specs.Search.{verdictOf};
+ghost use Rattle.session.specs.Session.{noAxes, heldBytes};
+ghost use Rattle.receiver.specs.Feed.{datagramWith, noFields, noValues, noDoubles, noDatagram, padded, meaning, replyBy, feedOf};
+ghost use Rattle.receiver.specs.Turns.{contentsOf, turnOf, turnAtOnce, Room};
+use motion::Axes;
+use motion::Datagrams;
+use motion::Gap;
+use motion::GroupTotals;
+use motion::GroupValues;
+use motion::Total;
+use motion::TotalDoubles;
+use motion::Totals;
+use motion::Values;
+use search::Place;
+use session::Session;
+use setup::Setup;
+use wire::Fields;
+
+// A datagram as it comes back.
+pub struct Datagram {
+    // readings X, Y, Z of each group
+    pub gyro: [i32; 3],
+    pub accelerometer: [i32; 3],
+    pub inclinometer: [i32; 3],
+    // statuses, temperatures, AUX, counter and latency
+    pub fields: Fields,
+    // how many channels the status byte of each group flags
+    pub flagged: [u32; 3],
+    pub values: GroupValues,
+    pub gap: Gap,
+    pub totals: Totals,
+    pub doubles: TotalDoubles,
+}
+
+// What happened: a datagram was handed out, the piece ended, the call was refused by a number.
+pub enum Answer {
+    Datagram,
+    Waiting,
+    Refused(u8),
+}
+
+// What a call tells: which happened, how many bytes it took, the new session, and the datagram, zeros where none is handed out.
+pub struct Reply {
+    pub answer: Answer,
+    pub taken: usize,
+    pub session: Session,
+    pub datagram: Datagram,
+}
+
+// A datagram as it comes back, of its readings and its other fields; `first`: whether it counts as a first one, `axes`: those after it.
+fn datagram_of(
+    setup: Setup,
+    first: bool,
+    previous: u8,
+    readings: [[i32; 3]; 3],
+    fields: Fields,
+    axes: Axes,
+) -> Datagram
+    ensures { λ r. ⌜ r ≡ datagramWith setup first previous (contentsOf readings fields) axes ⌝ }
+{
+    let statuses = fields.statuses;
+    let flagged = [
+        motion::flagged_channels(statuses[0]),
+        motion::flagged_channels(statuses[1]),
+        motion::flagged_channels(statuses[2]),
+    ];
+    let values = motion::group_values(setup, readings);
+    let gap = motion::gap_between(setup, first, previous, fields.counter);
+    let totals = motion::totals_of(axes);
+    let doubles = motion::total_doubles(setup, axes);
+    let gyro = readings[0];
+    let accelerometer = readings[1];
+    let inclinometer = readings[2];
+    Datagram {
+        gyro: gyro,
+        accelerometer: accelerometer,
+        inclinometer: inclinometer,
+        fields: fields,
+        flagged: flagged,
+        values: values,
+        gap: gap,
+        totals: totals,
+        doubles: doubles,
+    }
+}
+
+// The fields where no datagram is handed out: zeros.
+fn no_fields() -> Fields
+    ensures { λ r. ⌜ r ≡ noFields ⌝ }
+{
+    Fields {
+        statuses: [0; 3],
+        gyro_temperatures: [0; 3],
+        accelerometer_temperatures: [0; 3],
+        inclinometer_temperatures: [0; 3],
+        temperature_statuses: [0; 3],
+        aux: 0,
+        aux_status: 0,
+        counter: 0,
+        latency: 0,
+    }
+}
+
+// The values of a group there: zeros in unit 0.
+fn no_values() -> Values
+    ensures { λ r. ⌜ r ≡ noValues ⌝ }
+{
+    Values::Instantaneous(0.0, 0.0, 0.0)
+}
+
+// The totals there, none of which has begun.
+fn no_totals() -> Totals
+    ensures { λ r. ⌜ r ≡ totalsOf noAxes ⌝ }
+{
+    let total = Total {
+        begun: false,
+        steps: 0,
+    };
+    let group = GroupTotals {
+        x: total,
+        y: total,
+        z: total,
+    };
+    Totals {
+        gyro: group,
+        accelerometer: group,
+        inclinometer: group,
+    }
+}
+
+// The totals there as doubles.
+fn no_doubles() -> TotalDoubles
+    ensures { λ r. ⌜ r ≡ noDoubles ⌝ }
+{
+    TotalDoubles {
+        gyro_x: 0.0,
+        gyro_y: 0.0,
+        gyro_z: 0.0,
+        accelerometer_x: 0.0,
+        accelerometer_y: 0.0,
+        accelerometer_z: 0.0,
+        inclinometer_x: 0.0,
+        inclinometer_y: 0.0,
+        inclinometer_z: 0.0,
+    }
+}
+
+// What comes back in a datagram's place where none is handed out.
+fn no_datagram() -> Datagram
+    ensures { λ r. ⌜ r ≡ noDatagram ⌝ }
+{
+    let fields = no_fields();
+    let none = no_values();
+    let values = GroupValues {
+        gyro: none,
+        accelerometer: none,
+        inclinometer: none,
+    };
+    let gap = Gap::Missed(Datagrams(0));
+    let totals = no_totals();
+    let doubles = no_doubles();
+    Datagram {
+        gyro: [0; 3],
+        accelerometer: [0; 3],
+        inclinometer: [0; 3],
+        fields: fields,
+        flagged: [0; 3],
+        values: values,
+        gap: gap,
+        totals: totals,
+        doubles: doubles,
+    }
+}
+
+// Bytes with zeros behind them, 64 in all.
+fn keep(bytes: &[u8]) -> [u8; 64]
+    requires { ⌜ length (now bytes) ≤ 64 ⌝ }
+    ensures { λ r. ⌜ r ≡ padded 64 (now (bytes .entry)) ⌝ }
+{
+    let mut kept = [0u8; 64];
+    let mut i = 0;
+    while i < bytes.len() {
+        kept[i] = bytes[i];
+        i += 1;
+    }
+    kept
+}
+
+// A buffer with bytes written into it from a place on.
+fn put(buffer: [u8; 128], place: usize, bytes: &[u8]) -> [u8; 128]
+    requires { ⌜ place + length (now bytes) ≤ 128 ⌝ }
+    ensures { λ r. ⌜ r ≡ sets buffer place (now (bytes .entry)) ⌝ }
+{
+    let mut written = buffer;
+    let mut i = 0;
+    while i < bytes.len() {
+        let at = place + i;
+        written[at] = bytes[i];
+        i += 1;
+    }
+    written
+}
+
+// The bytes held and then those of a piece, with zeros behind them.
+fn join(held: &[u8], piece: &[u8]) -> [u8; 128]
+    requires { ⌜ length (now held) + length (now piece) ≤ 128 ⌝ }
+    ensures { λ r. ⌜ r ≡ padded 128 (now (held .entry) ++ now (piece .entry)) ⌝ }
+{
+    let front = put([0u8; 128], 0, held);
+    put(front, held.len(), piece)
+}
+
+// The lesser of two numbers.
+fn least(a: usize, b: usize) -> usize
+    ensures { λ r. ⌜ r ≡ min a b ⌝ }
+{
+    if a < b { a } else { b }
+}
+
+// The call ends with a datagram d, so many bytes having been passed over before it: it moves the totals on and comes back.
+fn hand_out(session: Session, passed: usize, taken: usize, d: &[u8]) -> Reply
+    requires { ⌜ Room session passed × Room session taken ⌝ }
+    ensures { λ r. ⌜ r ≡ turnOf session taken (finds passed (now (d .entry)) []) ⌝ }
+{
+    let setup = session.setup;
+    let identifier = setup.identifier;
+    let handed = session.datagrams.0;
+    let readings = wire::readings(identifier, d);
+    let fields = wire::fields_of(identifier, d);
+    let statuses = fields.statuses;
+    let before = session.axes;
+    let axes = motion::step(setup, before, readings, statuses);
+    let datagram = datagram_of(setup, handed == 0, session.previous, readings, fields, axes);
+    let after = Session {
+        setup: setup,
+        held: [0u8; 64],
+        count: 0,
+        datagrams: Datagrams(handed + 1),
+        passed: session.passed + (passed as u64),
+        fed: session.fed + (taken as u64),
+        previous: fields.counter,
+        axes: axes,
+    };
+    Reply {
+        answer: Answer::Datagram,
+        taken: taken,
+        session: after,
+        datagram: datagram,
+    }
+}
+
+// The call ends with the piece, so many bytes having been passed over: the undecided ones are held.
+fn hold(session: Session, passed: usize, taken: usize, undecided: &[u8]) -> Reply
+    requires { ⌜ (length (now undecided) ≤ 64) × Room session passed × Room session taken ⌝ }
+    ensures { λ r. ⌜ r ≡ turnOf session taken (ends passed (now (undecided .entry))) ⌝ }
+{
+    let held = keep(undecided);
+    let mut next = session;
+    next.held = held;
+    next.count = undecided.len();
+    next.passed = session.passed + (passed as u64);
+    next.fed = session.fed + (taken as u64);
+    let datagram = no_datagram();
+    Reply {
+        answer: Answer::Waiting,
+        taken: taken,
+        session: next,
+        datagram: datagram,
+    }
+}
+
+// The call is refused by a number: the session comes back as given, and no byte is taken.
+fn refuse(session: Session, number: u8) -> Reply
+    ensures { λ r. ⌜ r ≡ replyBy session (refused number) 0 (meaning session) ⌝ }
+{
+    let datagram = no_datagram();
+    Reply {
+        answer: Answer::Refused(number),
+        taken: 0,
+        session: session,
+        datagram: datagram,
+    }
+}
+
+// The call's scan of a piece from a place on, so many bytes having been passed over before it.
+fn scan_on(session: Session, size: usize, passed: usize, piece: &[u8], from: usize) -> Reply
+    requires { ⌜ (judged (session .setup) ≡ Accepted) × (size ≡ lengthOf (session .setup)) × (from ≤ length (now piece)) × Room session (passed + length (now piece)) ⌝ }
+    ensures { λ r. ⌜ r ≡ turnAtOnce session (now (piece .entry)) (later passed (first (verdictOf (session .setup)) (drop from (now (piece .entry))))) ⌝ }
+{
+    let setup = session.setup;
+    let rest = &piece[from..];
+    match search::find(setup, rest) {
+        Place::Whole(at) => {
+            let end = at + size;
+            hand_out(session, passed + at, from + end, &rest[at..end])
+        }
+        Place::Open(at) => hold(session, passed + at, piece.len(), &rest[at..]),
+    }
+}
+
+// The call's scan of the bytes held and then of a piece: of both where they meet, and from there on of the piece alone.
+fn scan_held(session: Session, size: usize, piece: &[u8]) -> Reply
+    requires { ⌜ (judged (session .setup) ≡ Accepted) × (size ≡ lengthOf (session .setup)) × (session .count < size) × Room session (200 + length (now piece)) ⌝ }
+    ensures { λ r. ⌜ r ≡ turnAtOnce session (now (piece .entry)) (first (verdictOf (session .setup)) (heldBytes session ++ now (piece .entry))) ⌝ }
+{
+    let setup = session.setup;
+    let count = session.count;
+    let held = session.held;
+    let len = piece.len();
+    let front = least(len, size - 1);
+    let joined = join(&held[..count], &piece[..front]);
+    let n = count + front;
+    let window = &joined[..n];
+    match search::find(setup, window) {
+        Place::Whole(at) => {
+            let end = at + size;
+            hand_out(session, at, end - count, &window[at..end])
+        }
+        Place::Open(at) => {
+            if front == len {
+                hold(session, at, len, &window[at..])
+            } else {
+                scan_on(session, size, at, piece, at - count)
+            }
+        }
+    }
+}
+
+// A call: 10, 11 or 12 refuses it, or it takes bytes of the piece until a datagram is complete or the piece ends (01, The scan).
+pub fn feed(session: Session, piece: &[u8]) -> Reply
+    ensures { λ r. ⌜ r ≡ feedOf session (now (piece .entry)) ⌝ }
+{
+    let setup = session.setup;
+    let count = session.count;
+    let fed = session.fed;
+    let len = piece.len();
+    if !session::is_sound(session) {
+        return refuse(session, 10);
+    }
+    if 4096 < len {
+        return refuse(session, 11);
+    }
+    if 17179869184 < fed + (len as u64) {
+        return refuse(session, 12);
+    }
+    let size = setup::length_of(setup);
+    if count == 0 {
+        scan_on(session, size, 0, piece, 0)
+    } else {
+        scan_held(session, size, piece)
+    }
+}
