@@ -90,3 +90,20 @@ module _ (id : ℕ) (a : 0x90 ≤ id → id < 0x95 → ⊥) (b : 0x98 ≤ id →
         ne-eqb id 0xAE (other 0xAD 0xB0 0xAE d (omega arith) (omega arith)),
         ne-eqb id 0xAF (other 0xAD 0xB0 0xAF d (omega arith) (omega arith)),
       )
+
+-- nor is one before, between or behind the ranges
+module _ (id : ℕ) where
+  pub before-all : id < 0x90 → layoutOf id ≡ Unlisted
+  before-all h = outside id (λ p q. omega arith) (λ p q. omega arith) (λ p q. omega arith) (λ p q. omega arith)
+
+  pub before-aux : 0x95 ≤ id → id < 0x98 → layoutOf id ≡ Unlisted
+  before-aux h k = outside id (λ p q. omega arith) (λ p q. omega arith) (λ p q. omega arith) (λ p q. omega arith)
+
+  pub before-warm : 0x9D ≤ id → id < 0xA5 → layoutOf id ≡ Unlisted
+  before-warm h k = outside id (λ p q. omega arith) (λ p q. omega arith) (λ p q. omega arith) (λ p q. omega arith)
+
+  pub before-warm-aux : 0xA8 ≤ id → id < 0xAD → layoutOf id ≡ Unlisted
+  before-warm-aux h k = outside id (λ p q. omega arith) (λ p q. omega arith) (λ p q. omega arith) (λ p q. omega arith)
+
+  pub behind-all : 0xB0 ≤ id → layoutOf id ≡ Unlisted
+  behind-all h = outside id (λ p q. omega arith) (λ p q. omega arith) (λ p q. omega arith) (λ p q. omega arith)

@@ -1,7 +1,6 @@
 use mathlib.Core.Path.{sym}
 use mathlib.Core.Logic.{⊎-elim}
-use native.Mathlib.Omega.{arith}
-use Rattle.setup.proofs.Ranges.{groups, groups-aux, warm, warm-aux, outside}
+use Rattle.setup.proofs.Ranges.{groups, groups-aux, warm, warm-aux, before-all, before-aux, before-warm, before-warm-aux, behind-all}
 use borrow.Author.Needs.{needs}
 use Rattle.setup.proofs.layout_of.Statement.{statement}
 use Rattle.setup.proofs.layout_of.Tie as tie
@@ -95,25 +94,25 @@ returns c =
     let id = c .before .before .before .before .before .before .before .before .before .args .identifier in
     rw (c .before .before .before .before .if-carried3 .ensures .0, c .before .before .before .if-carried4 .ensures .0, c .before .before .if-carried5 .ensures .0, c .before .if-carried6 .ensures .0, c .if-carried7 .ensures .0, c .before .before .before .before .before .before .before .if-carried2 .ensures .0, c .before .before .before .before .before .before .before .before .if-carried .ensures .0)
     (sym
-    (⊎-elim (λ w. groups id (omega arith) (omega arith))
-    (⊎-elim (λ w. groups-aux id (omega arith) (omega arith))
-    (⊎-elim (λ w. warm id (omega arith) (omega arith)) (λ w. warm-aux id (omega arith) (omega arith))))
+    (⊎-elim (λ w. groups id (c .before .before .before .before .before .before .if1 .left) (w .taken))
+    (⊎-elim (λ w. groups-aux id (w .1 .left) (w .2 .taken))
+    (⊎-elim (λ w. warm id (w .3 .left) (w .4 .taken)) (λ w. warm-aux id (w .5 .left) (w .6 .taken))))
     (c .before .before .before .before .before .if2 .came)))
 
 returns-2 : tie.Need-returns-2
-returns-2 c = sym (outside (c .before .before .before .args .identifier) (λ p q. omega arith) (λ p q. omega arith) (λ p q. omega arith) (λ p q. omega arith))
+returns-2 c = sym (before-all (c .before .before .before .args .identifier) (c .if1 .taken))
 
 returns-3 : tie.Need-returns-3
-returns-3 c = sym (outside (c .before .before .before .before .before .args .identifier) (λ p q. omega arith) (λ p q. omega arith) (λ p q. omega arith) (λ p q. omega arith))
+returns-3 c = sym (before-aux (c .before .before .before .before .before .args .identifier) (c .before .if2 .left) (c .if3 .taken))
 
 returns-4 : tie.Need-returns-4
-returns-4 c = sym (outside (c .before .before .before .before .before .before .before .args .identifier) (λ p q. omega arith) (λ p q. omega arith) (λ p q. omega arith) (λ p q. omega arith))
+returns-4 c = sym (before-warm (c .before .before .before .before .before .before .before .args .identifier) (c .before .if4 .left) (c .if5 .taken))
 
 returns-5 : tie.Need-returns-5
-returns-5 c = sym (outside (c .before .before .before .before .before .before .before .before .before .args .identifier) (λ p q. omega arith) (λ p q. omega arith) (λ p q. omega arith) (λ p q. omega arith))
+returns-5 c = sym (before-warm-aux (c .before .before .before .before .before .before .before .before .before .args .identifier) (c .before .if6 .left) (c .if7 .taken))
 
 returns-6 : tie.Need-returns-6
-returns-6 c = sym (outside (c .before .before .before .before .before .before .before .before .before .before .args .identifier) (λ p q. omega arith) (λ p q. omega arith) (λ p q. omega arith) (λ p q. omega arith))
+returns-6 c = sym (behind-all (c .before .before .before .before .before .before .before .before .before .before .args .identifier) (c .if8 .left))
 
 pub layout-of-spec : {M : Type 1} → statement M
 layout-of-spec =
