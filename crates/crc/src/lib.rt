@@ -135,7 +135,7 @@ pub fn crc32(s: &[u8]) -> u32
     remainder_of(last_step(check, s, i))
 }
 
-// `crc32` for Rust, which times it (bench/crc).
+// `crc32` for Rust, which times it (timing/crc).
 #[no_mangle]
 pub extern "C" fn nalvezik_crc32(s: &[u8]) -> u32
     ensures { λ r. ⌜ r ≡ check32 (now (s .entry)) ⌝ }

@@ -1,0 +1,512 @@
+//! The reference against the paper's examples and bench cases, each refusal
+//! clause, and the fast program against the plain one. `selftest SEED COUNT`
+//! compares those two on COUNT generated cases of a seed, instead of the usual
+//! ones.
+
+use std::env;
+use std::io::{self, Read};
+
+use stim_reference::check::{check_of, check_unpadded};
+use stim_reference::datagram::{
+    decode, double_of, encode, flagged_channels, folded_difference, gap_between, group_values,
+    is_acceptable, is_fit, reading_of, Datagram, Fields, Gap, GroupValues,
+};
+use stim_reference::fast;
+use stim_reference::generate::{good_setup, input_of_case, stream};
+use stim_reference::layout::{datagram_length, layout_of, IDENTIFIERS};
+use stim_reference::line::{write_line, Line};
+use stim_reference::program::{output_for, split_input};
+use stim_reference::random::Random;
+use stim_reference::session::{feed, judge_session, open_session, Axis, Outcome, Session};
+use stim_reference::setup::{judge_setup, read_setup_line, setup_line, Setup};
+use stim_reference::STREAM_LIMIT;
+
+const EXAMPLE_LINE: &[u8] = b"1000,90,0,3,0,0,21,0,0";
+
+const EXAMPLE: Setup = Setup {
+    rate: 1000,
+    identifier: 0x90,
+    termination: 0,
+    units: [3, 0, 0],
+    shifts: [21, 0, 0],
+};
+
+const USUAL_SEED: u64 = 1;
+const USUAL_COUNT: u64 = 5000;
+
+fn main() {
+    let number_of = |place: usize| env::args().nth(place).and_then(|text| text.parse().ok());
+    let seed = number_of(1).unwrap_or(USUAL_SEED);
+    let count = number_of(2).unwrap_or(USUAL_COUNT);
+    setup_lines();
+    layouts();
+    checks();
+    bench_cases();
+    paper_example();
+    feeding_refusals();
+    line_refusals();
+    fast_decimals();
+    sessions_along_streams();
+    plain_against_fast(seed, count);
+    smaller_limits(seed, count / 5);
+    println!("selftest passed");
+}
+
+fn setup_lines() {
+    assert_eq!(read_setup_line(EXAMPLE_LINE), Ok(EXAMPLE));
+    assert_eq!(setup_line(&EXAMPLE).as_bytes(), EXAMPLE_LINE);
+    let sixty_four = [b"1000,90,0,3,0,0,21,0,".to_vec(), vec![b'1'; 43]].concat();
+    let cases: &[(&[u8], u8)] = &[
+        (b"", 1),
+        (&[b','; 65], 1),
+        (&[b','; 64], 2),
+        (&sixty_four, 3),
+        (b"1000,90,0,3,0,0,21,0", 2),
+        (b"1000,90,0,3,0,0,21,0,0,", 2),
+        (b",,,,,,,,", 3),
+        (b"1000,90,0,3,0,0,21,0,0\r", 3),
+        (b"0125,90,0,3,0,0,21,0,0", 3),
+        (b"10000,90,0,3,0,0,21,0,0", 3),
+        (b"1000,9a,0,3,0,0,21,0,0", 3),
+        (b"1000,9,0,3,0,0,21,0,0", 3),
+        (b"1000,090,0,3,0,0,21,0,0", 3),
+        (b"1000,90,00,3,0,0,21,0,0", 3),
+        (b"1000,90,,3,0,0,21,0,0", 3),
+        (b"1000,90,0,3,0,0,21,0,\xB0", 3),
+        (b"1000,90,0,3,0,0,21,\0,0", 3),
+        (b"1001,00,9,9,9,9,99,99,99", 4),
+        (b"2000,95,9,9,9,9,99,99,99", 5),
+        (b"125,90,2,9,9,9,99,99,99", 6),
+        (b"250,90,1,0,0,4,99,99,99", 7),
+        (b"500,90,1,3,0,0,21,0,32", 8),
+        (b"500,90,1,3,0,0,32,0,0", 8),
+        (b"500,90,1,3,0,0,31,0,1", 9),
+        (b"500,91,1,3,0,1,31,0,0", 9),
+    ];
+    for (line, refusal) in cases {
+        assert_eq!(
+            read_setup_line(line),
+            Err(*refusal),
+            "{}",
+            line.escape_ascii()
+        );
+    }
+    // Shift 31 passes, 32 gets 8.
+    let with_shift = |shift: u32| Setup {
+        shifts: [shift, 0, 0],
+        ..EXAMPLE
+    };
+    assert_eq!(judge_setup(&with_shift(31)), Ok(()));
+    assert_eq!(judge_setup(&with_shift(32)), Err(8));
+    assert_eq!(judge_setup(&Setup::ZEROS), Err(5));
+}
+
+fn layouts() {
+    for identifier in 0..=256 {
+        let in_table = u8::try_from(identifier).is_ok_and(|byte| IDENTIFIERS.contains(&byte));
+        assert_eq!(layout_of(identifier).is_some(), in_table);
+    }
+    // The table's lengths are the sums of their parts.
+    for identifier in IDENTIFIERS.map(u32::from) {
+        let layout = layout_of(identifier).unwrap();
+        let groups = layout.carries.iter().filter(|&&carried| carried).count();
+        let group_bytes = if layout.temperatures { 10 + 7 } else { 10 };
+        let auxiliary_bytes = if layout.auxiliary { 4 } else { 0 };
+        let sum = 1 + groups * group_bytes + auxiliary_bytes + 1 + 2;
+        assert_eq!(layout.bytes_before_check, sum);
+        assert!(layout.carries[0]);
+    }
+    assert_eq!(datagram_length(&EXAMPLE), Some(18));
+    let longest = Setup {
+        identifier: 0xAF,
+        termination: 1,
+        ..EXAMPLE
+    };
+    assert_eq!(datagram_length(&longest), Some(65));
+}
+
+fn checks() {
+    // The published value of this check.
+    assert_eq!(check_unpadded(b"123456789"), 0x0376_E6E7);
+    assert_eq!(check_of(b"123456789"), check_unpadded(b"123456789\0\0\0"));
+    assert_ne!(check_of(b"123456789"), check_unpadded(b"\0\0\0123456789"));
+    let mut random = Random::new(7);
+    for length in 14..60 {
+        let bytes = random.bytes(64);
+        let padding = (4 - length % 4) % 4;
+        let by_tables = fast::padded_check(&bytes, length, u32::MAX << (8 * padding));
+        assert_eq!(by_tables, check_of(&bytes[..length]));
+    }
+}
+
+fn bench_cases() {
+    assert_eq!(reading_of([0x7F, 0xFF, 0xFF]), 8_388_607);
+    assert_eq!(reading_of([0x80, 0x00, 0x00]), -8_388_608);
+    assert_eq!(reading_of([0xFF, 0xFF, 0xFF]), -1);
+
+    assert_eq!(folded_difference(-8_388_600, 8_388_600), 16);
+    assert_eq!(folded_difference(-8_388_608, 0), -8_388_608);
+    assert_eq!(folded_difference(0, -8_388_608), -8_388_608);
+    assert_eq!(folded_difference(8_388_607, -8_388_608), -1);
+
+    assert_eq!(gap_between(500, 254, 2), Gap::Missed(0));
+    assert_eq!(gap_between(125, 2, 2), Gap::Missed(15));
+    assert_eq!(gap_between(1000, 0, 3), Gap::OffStep);
+    assert_eq!(gap_between(2000, 5, 5), Gap::Missed(255));
+    assert_eq!(gap_between(0, 5, 77), Gap::Missed(0));
+
+    assert_eq!(double_of(16_384, 14), 1.0);
+    assert_eq!(double_of(-8_388_608, 21), -4.0);
+    assert_eq!(double_of(0, 31).to_bits(), 0.0_f64.to_bits());
+    let values = group_values(2, 14, [16_384, 0, -8192]);
+    assert_eq!(values, GroupValues::Average([1.0, 0.0, -0.5]));
+
+    assert_eq!(
+        [0, 1, 2].map(|axis| is_fit(0x0A, axis)),
+        [true, false, true]
+    );
+    assert_eq!([0, 1, 2].map(|axis| is_fit(0x20, axis)), [true; 3]);
+    assert_eq!([0, 1, 2].map(|axis| is_fit(0x08, axis)), [true; 3]);
+    assert_eq!(
+        [0, 1, 2].map(|axis| is_fit(0x14, axis)),
+        [true, true, false]
+    );
+    assert_eq!([0, 1, 2].map(|axis| is_fit(0x40, axis)), [false; 3]);
+    assert_eq!([0, 1, 2].map(|axis| is_fit(0x80, axis)), [false; 3]);
+    assert_eq!([0x00, 0x07, 0xF8, 0x0D].map(flagged_channels), [0, 3, 0, 2]);
+}
+
+/// A datagram of the example setup.
+fn example_datagram(gyro_x: i32, counter: u8) -> Vec<u8> {
+    let mut fields = Fields {
+        counter,
+        ..Fields::ZEROS
+    };
+    fields.readings[0][0] = gyro_x;
+    encode(&EXAMPLE, &fields)
+}
+
+fn paper_example() {
+    let mut input = EXAMPLE_LINE.to_vec();
+    input.push(0x0A);
+    input.extend(example_datagram(8_388_600, 2));
+    input.extend(example_datagram(-8_388_600, 4));
+    let expected = b"1,2,0,0,8388600,0,0,0,0,0,0,,,,,,,,,,,,,,\n\
+                     2,4,0,0,-8388600,0,0,0,16,0,0,,,,,,,,,,,,,,\n";
+    assert_eq!(output_for(&input, STREAM_LIMIT), expected);
+    assert_eq!(
+        fast_output(&input, STREAM_LIMIT, &mut Random::new(1)),
+        expected
+    );
+    assert_eq!(output_for(b"", STREAM_LIMIT), b"refused 1\n");
+    assert_eq!(output_for(EXAMPLE_LINE, STREAM_LIMIT), b"");
+}
+
+fn feeding_refusals() {
+    let fresh = open_session(&EXAMPLE).unwrap();
+    assert_eq!(open_session(&Setup::ZEROS), Err(5));
+    assert_eq!(judge_session(&Session::ZEROS), Err(10));
+    let outcome = |session: &Session, length: usize| {
+        let answer = feed(session, &vec![0; length]);
+        if let Outcome::Refused(_) = answer.outcome {
+            assert_eq!(answer.session, *session);
+            assert_eq!(answer.taken, 0);
+        }
+        if answer.outcome != Outcome::Datagram {
+            assert_eq!(answer.datagram, Datagram::ZEROS);
+        }
+        answer.outcome
+    };
+    assert_eq!(outcome(&fresh, 0), Outcome::Waiting);
+    // A piece of 4,096 bytes passes, 4,097 gets 11.
+    assert_eq!(outcome(&fresh, 4096), Outcome::Waiting);
+    assert_eq!(outcome(&fresh, 4097), Outcome::Refused(11));
+    // Bytes fed plus the piece up to 2^34 pass, one more gets 12, after 11.
+    let nearly_full = Session {
+        bytes_fed: STREAM_LIMIT - 5,
+        passed_over: STREAM_LIMIT - 5,
+        ..fresh
+    };
+    assert_eq!(outcome(&nearly_full, 5), Outcome::Waiting);
+    assert_eq!(outcome(&nearly_full, 6), Outcome::Refused(12));
+    assert_eq!(outcome(&nearly_full, 4097), Outcome::Refused(11));
+
+    // Refusal 10: each clause broken alone, beside a session that passes.
+    let mut good = Session {
+        held_count: 3,
+        bytes_fed: 2 * 18 + 7 + 3,
+        datagrams: 2,
+        passed_over: 7,
+        previous_counter: 200,
+        ..fresh
+    };
+    good.held[..3].copy_from_slice(&[0x90, 1, 2]);
+    good.axes[0][0] = Axis {
+        begun: true,
+        last_fit_reading: -8_388_608,
+        total: 2 << 23,
+    };
+    assert_eq!(judge_session(&good), Ok(()));
+    let refused = |change: &dyn Fn(&mut Session)| {
+        let mut session = good;
+        change(&mut session);
+        assert_eq!(outcome(&session, 4097), Outcome::Refused(10));
+    };
+    refused(&|session| session.setup.rate = 1);
+    refused(&|session| session.setup.shifts[1] = 1);
+    refused(&|session| session.held[0] = 0x91);
+    refused(&|session| session.held[3] = 1);
+    refused(&|session| session.held[63] = 1);
+    refused(&|session| session.held_count = 2);
+    refused(&|session| {
+        session.held_count = 18;
+        session.bytes_fed = 2 * 18 + 7 + 18;
+    });
+    refused(&|session| {
+        session.held_count = u64::MAX;
+        session.bytes_fed = session.bytes_fed.wrapping_sub(4);
+    });
+    refused(&|session| session.bytes_fed += 1);
+    refused(&|session| session.passed_over += 1);
+    refused(&|session| {
+        // L * datagrams would come out right modulo 2^64.
+        session.datagrams += 1 << 63;
+    });
+    refused(&|session| {
+        session.passed_over = STREAM_LIMIT + 1 - 2 * 18 - 3;
+        session.bytes_fed = STREAM_LIMIT + 1;
+    });
+    refused(&|session| session.axes[0][0].total = (2 << 23) + 1);
+    refused(&|session| session.axes[0][0].total = -(2 << 23) - 1);
+    refused(&|session| session.axes[0][0].total = i64::MIN);
+    refused(&|session| session.axes[0][0].last_fit_reading = -8_388_609);
+    refused(&|session| session.axes[0][0].last_fit_reading = 8_388_608);
+    refused(&|session| session.axes[0][0].begun = false);
+    refused(&|session| session.axes[0][1].total = 1);
+    refused(&|session| session.axes[0][1].last_fit_reading = 1);
+    refused(&|session| session.axes[1][2].begun = true);
+    refused(&|session| session.setup.units[0] = 2);
+    // A full session still passes the sum.
+    let full = Session {
+        passed_over: STREAM_LIMIT - 2 * 18 - 3,
+        bytes_fed: STREAM_LIMIT,
+        ..good
+    };
+    assert_eq!(outcome(&full, 0), Outcome::Waiting);
+    assert_eq!(outcome(&full, 1), Outcome::Refused(12));
+}
+
+fn line_refusals() {
+    let good = Line {
+        setup: EXAMPLE,
+        ordinal: 1,
+        counter: 255,
+        latency: 65_535,
+        gap: Gap::OffStep,
+        readings: [[-8_388_608, 8_388_607, 0]; 3],
+        statuses: [255; 3],
+        totals: [[-(1 << 53), 1 << 53, 7]; 3],
+        begun: [[true, true, false]; 3],
+    };
+    let expected: &[u8] = b"1,255,65535,?,-8388608,8388607,0,255,\
+        -9007199254740992,9007199254740992,,,,,,,,,,,,,,,\n";
+    let mut buffer = [0xEE; 100];
+    assert_eq!(write_line(&good, &mut buffer), Ok(expected.len()));
+    assert_eq!(&buffer[..expected.len()], expected);
+    assert!(buffer[expected.len()..].iter().all(|&byte| byte == 0xEE));
+
+    let refused = |line: &Line, room: usize, refusal: u8| {
+        let mut buffer = vec![0xEE; room];
+        assert_eq!(write_line(line, &mut buffer), Err(refusal));
+        assert!(buffer.iter().all(|&byte| byte == 0xEE));
+    };
+    refused(&good, expected.len() - 1, 14);
+    refused(&good, 0, 14);
+    let with = |change: &dyn Fn(&mut Line)| {
+        let mut line = good;
+        change(&mut line);
+        line
+    };
+    refused(&with(&|line| line.ordinal = 0), 0, 13);
+    refused(&with(&|line| line.readings[2][2] = 8_388_608), 100, 13);
+    refused(&with(&|line| line.readings[0][0] = -8_388_609), 0, 13);
+    refused(&with(&|line| line.totals[2][2] = (1 << 53) + 1), 100, 13);
+    refused(&with(&|line| line.totals[0][2] = i64::MIN), 100, 13);
+    refused(&with(&|line| line.setup = Setup::ZEROS), 0, 5);
+    refused(&with(&|line| line.setup.units[1] = 1), 0, 9);
+    let longest = with(&|line| {
+        line.setup = Setup {
+            identifier: 0xAF,
+            units: [3; 3],
+            shifts: [31; 3],
+            ..EXAMPLE
+        };
+        line.ordinal = u64::MAX;
+        line.begun = [[true; 3]; 3];
+        line.totals = [[-(1 << 53); 3]; 3];
+        line.readings = [[-8_388_608; 3]; 3];
+        line.gap = Gap::Missed(255);
+    });
+    let mut buffer = [0; 320];
+    // Digits and signs 20 + 3 + 5 + 3 + 9 * 8 + 3 * 3 + 9 * 17, and 25 for
+    // commas and line end.
+    assert_eq!(write_line(&longest, &mut buffer), Ok(290));
+}
+
+fn fast_decimals() {
+    let same = |number: i64| {
+        let expected = format!("{number},").into_bytes();
+        assert_eq!(fast::number_text(number), expected);
+    };
+    // Every reading, and totals around each power of ten and of two.
+    for reading in -8_388_608..=8_388_607 {
+        same(reading);
+    }
+    for beside in -3..=3 {
+        for exponent in 0..16 {
+            same(10_i64.pow(exponent) + beside);
+            same(-10_i64.pow(exponent) + beside);
+        }
+        for exponent in 0..53 {
+            same((1 << exponent) + beside);
+            same(-(1 << exponent) + beside);
+        }
+    }
+    same(1 << 53);
+    same(-(1 << 53));
+}
+
+/// Along generated streams: every session passes, the sum of bytes holds, the
+/// pieces don't matter, and what is handed out are acceptable datagrams whose
+/// fields come back when encoded again.
+fn sessions_along_streams() {
+    let mut random = Random::new(3);
+    let mut handed_out = 0;
+    for _ in 0..300 {
+        let setup = good_setup(&mut random);
+        let length = datagram_length(&setup).unwrap();
+        let bytes = stream(&mut random, &setup, 600);
+        let mut session = open_session(&setup).unwrap();
+        let mut position = 0;
+        while position < bytes.len() {
+            let piece_end = random.between(position, (position + 90).min(bytes.len()));
+            let answer = feed(&session, &bytes[position..piece_end]);
+            assert_eq!(judge_session(&answer.session), Ok(()));
+            position += answer.taken;
+            assert_eq!(answer.session.bytes_fed, position as u64);
+            match answer.outcome {
+                Outcome::Datagram => {
+                    handed_out += 1;
+                    let datagram = &bytes[position - length..position];
+                    assert!(is_acceptable(&setup, datagram));
+                    assert_eq!(decode(&setup, datagram), answer.datagram.fields);
+                    assert_eq!(encode(&setup, &answer.datagram.fields), datagram);
+                }
+                Outcome::Waiting => assert_eq!(position, piece_end),
+                Outcome::Refused(_) => panic!("nothing here is refused"),
+            }
+            session = answer.session;
+        }
+    }
+    assert!(handed_out > 1000);
+    println!("{handed_out} datagrams handed out along 300 streams");
+}
+
+/// Gives its bytes in irregular amounts.
+struct IrregularReader<'a> {
+    rest: &'a [u8],
+    random: &'a mut Random,
+    largest: usize,
+}
+
+impl Read for IrregularReader<'_> {
+    fn read(&mut self, room: &mut [u8]) -> io::Result<usize> {
+        let most = self.rest.len().min(room.len()).min(self.largest);
+        if most == 0 {
+            return Ok(0);
+        }
+        let count = self.random.between(1, most);
+        let (given, rest) = self.rest.split_at(count);
+        room[..count].copy_from_slice(given);
+        self.rest = rest;
+        Ok(count)
+    }
+}
+
+fn fast_output(input: &[u8], stream_limit: u64, random: &mut Random) -> Vec<u8> {
+    let largest = random.pick(&[1, 3, 20, 100, 5000, 100_000]);
+    let mut reader = IrregularReader {
+        rest: input,
+        random,
+        largest,
+    };
+    let mut output = Vec::new();
+    fast::receive(&mut reader, &mut output, stream_limit).expect("nothing fails in memory");
+    output
+}
+
+/// Compares the two programs, and makes sure that the generated cases reach
+/// every refusal and every layout.
+fn plain_against_fast(seed: u64, count: u64) {
+    let mut random = Random::new(5);
+    let mut refused = [0; 10];
+    let mut printed_by_identifier = [[0; 2]; 16];
+    let mut lines = 0;
+    let mut off_step = 0;
+    for number in 0..count {
+        let input = input_of_case(seed, number);
+        let plain = output_for(&input, STREAM_LIMIT);
+        let quick = fast_output(&input, STREAM_LIMIT, &mut random);
+        assert!(plain == quick, "plain and fast differ at case {number}");
+        match read_setup_line(split_input(&input).0) {
+            Err(refusal) => refused[refusal as usize] += 1,
+            Ok(setup) => {
+                let line_count = plain.iter().filter(|&&byte| byte == b'\n').count();
+                let identifier = IDENTIFIERS
+                    .iter()
+                    .position(|&identifier| u32::from(identifier) == setup.identifier)
+                    .unwrap();
+                printed_by_identifier[identifier][setup.termination as usize] += line_count;
+                lines += line_count;
+                off_step += plain.iter().filter(|&&byte| byte == b'?').count();
+            }
+        }
+    }
+    if count >= USUAL_COUNT {
+        assert!(refused[1..].iter().all(|&times| times > 20), "{refused:?}");
+        let mut printed = printed_by_identifier.iter().flatten();
+        assert!(
+            printed.all(|&times| times > 200),
+            "{printed_by_identifier:?}"
+        );
+    }
+    println!("{count} generated cases, plain and fast agree, {lines} lines");
+    println!(
+        "off step {off_step} times, refused by 1 to 9: {:?}",
+        &refused[1..]
+    );
+}
+
+/// The end of the stream's room, with a limit that is reached soon.
+fn smaller_limits(seed: u64, count: u64) {
+    let mut random = Random::new(9);
+    for number in 0..count {
+        let input = input_of_case(!seed, number);
+        let stream_length = split_input(&input).1.len();
+        let limit = match random.below(4) {
+            0 => stream_length,
+            1 => stream_length.saturating_sub(1),
+            _ => random.between(0, stream_length),
+        };
+        let plain = output_for(&input, limit as u64);
+        let quick = fast_output(&input, limit as u64, &mut random);
+        assert!(
+            plain == quick,
+            "plain and fast differ at case {number}, limit {limit}"
+        );
+        let is_refused = plain.ends_with(b"refused 12\n");
+        let good_setup = read_setup_line(split_input(&input).0).is_ok();
+        assert_eq!(is_refused, good_setup && limit < stream_length);
+    }
+    println!("{count} generated cases with a smaller limit, plain and fast agree");
+}

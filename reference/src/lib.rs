@@ -1,0 +1,46 @@
+//! A reference implementation of the STIM300 bench receiver, written from the
+//! scope paper (document 01) and the sensor's datasheet (document 001) alone.
+//!
+//! The plain version, straight from the paper's sentences:
+//!
+//! * [`setup`]: the setup line and the setup given as values (refusals 1 to 9)
+//! * [`layout`]: what each identifier carries and how long a datagram is
+//! * [`check`]: the 32 bit check, one bit at a time
+//! * [`datagram`]: decoding, status, doubles, gaps, totals of one datagram
+//! * [`session`]: opening and feeding a session (refusals 10 to 12)
+//! * [`line`]: the text line (refusals 4 to 9, 13 and 14)
+//! * [`program`]: what the receiving program prints for a whole input
+//!
+//! Beside it:
+//!
+//! * [`fast`]: the same program written for speed
+//! * [`random`], [`generate`]: adversarial inputs from a seed
+
+pub mod check;
+pub mod datagram;
+pub mod fast;
+pub mod generate;
+pub mod layout;
+pub mod line;
+pub mod program;
+pub mod random;
+pub mod session;
+pub mod setup;
+
+/// The number of a refusal, as listed in 01, "What is turned down".
+pub type Refusal = u8;
+
+/// The three groups, in the order in which a datagram carries them.
+pub const GYRO: usize = 0;
+pub const ACCELEROMETER: usize = 1;
+pub const INCLINOMETER: usize = 2;
+
+/// A stream, and with it a session, holds at most 2^34 bytes.
+pub const STREAM_LIMIT: u64 = 1 << 34;
+
+/// A piece holds at most 4,096 bytes.
+pub const PIECE_LIMIT: usize = 4096;
+
+/// The ends of a 24 bit reading.
+pub const LOWEST_READING: i32 = -8_388_608;
+pub const HIGHEST_READING: i32 = 8_388_607;
