@@ -13,6 +13,9 @@
 //     write NUMBER SETUP ORDINAL COUNTER LATENCY MISSED READINGS STATUSES TOTALS ROOM TEXT
 //                            the number that refuses a text line in a buffer of ROOM bytes, or 0 and the line without its end; a total is
 //                            1 or 0, for begun or not, and its value. The whole buffer is compared
+//     open .., piece ..      opening and feeding, described in feeding.rt
+mod feeding;
+
 use libc::STDIN_FILENO;
 use libc::STDOUT_FILENO;
 use motion::Datagrams;
@@ -76,7 +79,7 @@ fn hexadecimal_at(given: &[u8], from: usize) -> u64 {
         if b == 0x20 {
             return number;
         }
-        number = number % 268435456 * 16 + digit_value(b) as u64;
+        number = number % 1152921504606846976 * 16 + digit_value(b) as u64;
         i += 1;
     }
     number
@@ -124,7 +127,7 @@ fn value_at(given: &[u8], k: usize) -> u16 {
 
 // The setup whose nine values are the words from k on.
 fn setup_at(given: &[u8], k: usize) -> Setup
-    requires { ⌜ k ≤ 2 ⌝ }
+    requires { ⌜ k ≤ 5 ⌝ }
 {
     Setup {
         rate: value_at(given, k),
@@ -456,6 +459,8 @@ fn passes(given: &[u8]) -> bool {
         b'f' => fit_case(given),
         b'g' => gap_case(given),
         b'w' => write_case(given),
+        b'o' => feeding::open_case(given),
+        b'p' => feeding::piece_case(given),
         _ => false,
     }
 }
