@@ -146,29 +146,9 @@ residue-twosComplement w n h = by (ltb (2 * n) (2 ^ w)) refl
         let s : pos n -ℤ pos (2 ^ w) ≡ negsuc a = parts-ext (pos n -ℤ pos (2 ^ w)) (negsuc a) (omega (arith, sub-parts (pos n) (pos (2 ^ w)))) in
         rw (twosComplement-high w n (ltb-false (2 * n) (2 ^ w) e), s) (omega arith)
 
-pub twosComplement-residue : (w : ℕ) (z : ℤ) → 2 * posPart z < 2 ^ w → 2 * negPart z ≤ 2 ^ w → twosComplement w (residue z (2 ^ w)) ≡ z
-twosComplement-residue w (pos a) h k = rw (mod-eq-of-lt (half-below (2 ^ w) a h)) (twosComplement-low w a h)
-twosComplement-residue w (negsuc a) h k =
-    let m : a % 2 ^ w ≡ a = mod-eq-of-lt (half-below (2 ^ w) a (omega arith)) in
-    let n = 2 ^ w - suc a in
-    rw m (twosComplement-high w n (omega arith) ∙ parts-ext (pos n -ℤ pos (2 ^ w)) (negsuc a) (omega (arith, sub-parts (pos n) (pos (2 ^ w)))))
-
-pub twosComplement-injective : (w m n : ℕ) → m < 2 ^ w → n < 2 ^ w → twosComplement w m ≡ twosComplement w n → m ≡ n
-twosComplement-injective w m n h k e =
-    sym (residue-twosComplement w m h) ∙ ap (λ (z : ℤ). residue z (2 ^ w)) e ∙ residue-twosComplement w n k
-
 pub signedBytes-range : (bs : List ℕ) → AllBytes bs → Complement (8 * length bs) (bigEndian bs) (signedBytes bs)
 unfolding signedBytes
 signedBytes-range bs h = twosComplement-range (8 * length bs) (bigEndian bs) (bigEndian-below bs h)
-
--- bytes are told by their signed value and their number
-pub signedBytes-injective : (xs ys : List ℕ) → AllBytes xs → AllBytes ys → length xs ≡ length ys → signedBytes xs ≡ signedBytes ys → xs ≡ ys
-unfolding signedBytes
-signedBytes-injective xs ys h k l e =
-    let p = 8 * length xs in
-    let q : bigEndian ys < 2 ^ p = subst (λ (n : ℕ). bigEndian ys < 2 ^ (8 * n)) (sym l) (bigEndian-below ys k) in
-    let f : twosComplement p (bigEndian xs) ≡ twosComplement p (bigEndian ys) = subst (λ (n : ℕ). twosComplement p (bigEndian xs) ≡ twosComplement (8 * n) (bigEndian ys)) (sym l) e in
-    bigEndian-injective xs ys h k l (twosComplement-injective p (bigEndian xs) (bigEndian ys) (bigEndian-below xs h) q f)
 
 -- the code of it, in signed numbers of the width v, for bytes whose value is n: n is cast, and in the upper half 2 ^ width is taken off
 module _ (v : Width) (w n : ℕ) (narrow : w ≤ hbits v) (h : n < 2 ^ w) where

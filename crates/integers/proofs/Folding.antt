@@ -42,9 +42,6 @@ fold-congruent z =
     let s = floor-split z 16777216 (omega arith) in
     record { more = f .carry + posPart (floor z 16777216); less = negPart (floor z 16777216); same = omega arith }
 
-pub fold-abs : (z : ℤ) → natAbs (fold z) ≤ 8388608
-fold-abs z = abs-of-range (fold z) (fold-range z)
-
 -- ---- and nothing else has both
 
 pub range-unique : (x y : ℤ) → InRange x → InRange y → Congruent x y → x ≡ y

@@ -8,9 +8,9 @@ use mathlib.Core.Bool.{Bool, true, false, cond}
 use Prim.Native.Nat.{ℕ, zero, suc, _+_, _-_, _*_, _≤_, _<_, min}
 use native.Mathlib.Nat.{add-zero, zero-add, zero-mul}
 use native.Mathlib.Omega.{arith}
-use lib.Dec.{T, ltb, leb, leb→le, ltb→lt, leb·suc-suc}
+use lib.Dec.{T, ltb, leb, leb→le, leb·suc-suc}
 use lib.IntN.{ℤ, pos, negsuc, negℤ, natAbs, subℕ, _+ℤ_, _-ℤ_, _*ℤ_}
-use lib.Signed.{mag, nonNeg, leZ, ltZ, pos-natAbs, _≤ℤ_, _<ℤ_}
+use lib.Signed.{mag, nonNeg, leZ, ltZ, pos-natAbs, _≤ℤ_}
 use borrow.Author.Tests.{ltb-true, ltb-false, leb-true, leb-false, lt-ltb, le-ltb, le-leb, lt-leb}
 
 abbrev pub posPart : ℤ → ℕ
@@ -135,26 +135,11 @@ module _ (x y : ℤ) where
   pub leZ-false : leZ x y ≡ false → posPart y + negPart x < posPart x + negPart y
   leZ-false e = leb-false (posPart x + negPart y) (posPart y + negPart x) (sym (leZ-parts x y) ∙ e)
 
-  pub lt-ltZ : posPart x + negPart y < posPart y + negPart x → ltZ x y ≡ true
-  lt-ltZ h = ltZ-parts x y ∙ lt-ltb (posPart x + negPart y) (posPart y + negPart x) h
-
-  pub le-ltZ : posPart y + negPart x ≤ posPart x + negPart y → ltZ x y ≡ false
-  le-ltZ h = ltZ-parts x y ∙ le-ltb (posPart x + negPart y) (posPart y + negPart x) h
-
   pub le-leZ : posPart x + negPart y ≤ posPart y + negPart x → leZ x y ≡ true
   le-leZ h = leZ-parts x y ∙ le-leb (posPart x + negPart y) (posPart y + negPart x) h
-
-  pub lt-leZ : posPart y + negPart x < posPart x + negPart y → leZ x y ≡ false
-  lt-leZ h = leZ-parts x y ∙ lt-leb (posPart x + negPart y) (posPart y + negPart x) h
 
   pub parts-le : posPart x + negPart y ≤ posPart y + negPart x → x ≤ℤ y
   parts-le h = record { le = subst T (sym (le-leZ h)) tt }
 
-  pub parts-lt : posPart x + negPart y < posPart y + negPart x → x <ℤ y
-  parts-lt h = record { lt = subst T (sym (lt-ltZ h)) tt }
-
 pub le-parts : {x y : ℤ} → x ≤ℤ y → posPart x + negPart y ≤ posPart y + negPart x
 le-parts {x} {y} h = leb→le (posPart x + negPart y) (posPart y + negPart x) (subst T (leZ-parts x y) (h .le))
-
-pub lt-parts : {x y : ℤ} → x <ℤ y → posPart x + negPart y < posPart y + negPart x
-lt-parts {x} {y} h = ltb→lt (posPart x + negPart y) (posPart y + negPart x) (subst T (ltZ-parts x y) (h .lt))

@@ -6,19 +6,19 @@
 --     of a sum and the like   sfits-of-parts, sfits-of-abs
 -- Assumes nothing.
 use mathlib.Core.Path.{_≡_, refl, sym, ap, _∙_, subst}
-use mathlib.Core.Bool.{Bool, true, false, _&&_, and-true}
-use Prim.Native.Nat.{ℕ, zero, suc, _+_, _-_, _*_, _^_, _≤_, _<_}
+use mathlib.Core.Bool.{true, false}
+use Prim.Native.Nat.{ℕ, suc, _+_, _-_, _*_, _^_, _≤_, _<_}
 use native.Mathlib.Nat.{lt-of-lt-of-le}
 use native.Mathlib.Omega.{arith}
-use lib.Dec.{T, leb, eqb, leb→le, leb·zero, leb·suc-suc, eqb·suc-zero}
-use lib.IntN.{ℤ, pos, negsuc, negℤ, natAbs}
+use lib.Dec.{T, leb, eqb, leb→le, eqb·suc-zero}
+use lib.IntN.{ℤ, pos, negsuc, natAbs}
 use lib.Pow.{pow-mono}
-use lib.Signed.{mag, ltZ, leZ, natAbs-le}
-use borrow.Author.Tests.{ne-eqb, lt-leb}
+use lib.Signed.{mag, ltZ, natAbs-le}
+use borrow.Author.Tests.{ne-eqb}
 use mir.Syntax.{Width}
 use mir.Val.{hbits, SFits, ofZ, toZ}
 use mir.ValLaws.{toZ-ofZ, pow-bits}
-use Rattle.integers.proofs.Parts.{posPart, negPart, natAbs-parts, mag-of-parts, parts-of-mag, ltZ-true, ltZ-false, leZ-true, leZ-false}
+use Rattle.integers.proofs.Parts.{posPart, negPart, natAbs-parts, mag-of-parts, parts-of-mag, ltZ-true, ltZ-false}
 
 -- ---- what fits
 
@@ -70,35 +70,10 @@ zero-test w (negsuc n) f = ne-eqb _ 0 (above (f .sfits) (pow-bits w)) ∙ sym (e
     above : {h m : ℕ} → n < h → m ≡ h * 2 → m - suc n ≡ 0 → ⊥
     above k p e = omega arith
 
--- `-m <= z` and `z <= m`
-pub within-test : (m : ℕ) (z : ℤ) → (leZ (negℤ (pos m)) z && leZ z (pos m)) ≡ leb (natAbs z) m
-within-test zero (pos n) = ap (λ (t : Bool). t && leb n 0) (leb·zero n)
-within-test (suc m) (pos n) = refl
-within-test zero (negsuc n) = sym (lt-leb (suc n) 0 (omega arith))
-within-test (suc m) (negsuc n) = and-true (leb n m) ∙ sym (leb·suc-suc n m)
-
--- what a test of a signed number x against y says, as a branch leaves it: `x < y` (below), `x > y`, which the machine has as y < x (above), `x <= y` (at-most) and `x >= y` (at-least)
+-- what a test `x < y` of a signed number x says, as a branch leaves it
 module _ (w : Width) (x y : ℤ) (f : SFits w x) where
   pub below-taken : ltZ (toZ w (ofZ w x)) y ≡ true → posPart x + negPart y < posPart y + negPart x
   below-taken e = ltZ-true x y (rw (toZ-ofZ w x f) at e)
 
   pub below-left : ltZ (toZ w (ofZ w x)) y ≡ false → posPart y + negPart x ≤ posPart x + negPart y
   below-left e = ltZ-false x y (rw (toZ-ofZ w x f) at e)
-
-  pub above-taken : ltZ y (toZ w (ofZ w x)) ≡ true → posPart y + negPart x < posPart x + negPart y
-  above-taken e = ltZ-true y x (rw (toZ-ofZ w x f) at e)
-
-  pub above-left : ltZ y (toZ w (ofZ w x)) ≡ false → posPart x + negPart y ≤ posPart y + negPart x
-  above-left e = ltZ-false y x (rw (toZ-ofZ w x f) at e)
-
-  pub at-most-taken : leZ (toZ w (ofZ w x)) y ≡ true → posPart x + negPart y ≤ posPart y + negPart x
-  at-most-taken e = leZ-true x y (rw (toZ-ofZ w x f) at e)
-
-  pub at-most-left : leZ (toZ w (ofZ w x)) y ≡ false → posPart y + negPart x < posPart x + negPart y
-  at-most-left e = leZ-false x y (rw (toZ-ofZ w x f) at e)
-
-  pub at-least-taken : leZ y (toZ w (ofZ w x)) ≡ true → posPart y + negPart x ≤ posPart x + negPart y
-  at-least-taken e = leZ-true y x (rw (toZ-ofZ w x f) at e)
-
-  pub at-least-left : leZ y (toZ w (ofZ w x)) ≡ false → posPart x + negPart y < posPart y + negPart x
-  at-least-left e = leZ-false y x (rw (toZ-ofZ w x f) at e)

@@ -1,5 +1,5 @@
 -- The nine axes one by one: a step of an axis depends only on its own state, its own reading and its group's status byte (01, Totals). Assumes nothing.
-use mathlib.Core.Bool.{Bool, false}
+use mathlib.Core.Bool.{Bool}
 use mathlib.Core.List.{List, []}
 use mathlib.Core.Path.{_≡_, refl}
 use Prim.Native.Nat.{ℕ, zero, suc, _<_}
@@ -10,7 +10,7 @@ use Rattle.setup.specs.declared.Setup.{Setup}
 use Rattle.motion.specs.declared.GroupAxes.{GroupAxes}
 use Rattle.motion.specs.declared.Axes.{Axes}
 use Rattle.motion.specs.Doubles.{valuesAt, groupValues, valuesFor}
-use Rattle.motion.specs.Totals.{keptStep, keeps, groupsKept, seenIn, seen, groupStep, stepped, axisIn, axisAt, totalOf, totalsOf, totalAt, totalDouble, totalDoubles, doubleAt}
+use Rattle.motion.specs.Totals.{keptStep, keeps, seenIn, seen, groupStep, stepped, axisIn, axisAt, totalOf, totalsOf, totalAt, totalDouble, totalDoubles, doubleAt}
 
 -- what holds of each of three holds of a number below 3
 pub each : (P : ℕ → Type 0) → P 0 → P 1 → P 2 → (n : ℕ) → n < 3 → P n
@@ -23,11 +23,6 @@ step-in : (kept : Bool) (g : GroupAxes) (readings : List ℤ) (status axis : ℕ
 unfolding groupStep
 step-in kept g readings status =
     each (λ axis. axisIn (groupStep kept g readings status) axis ≡ keptStep kept (axisIn g axis) (seenIn status readings axis)) refl refl refl
-
--- whether a group keeps totals
-pub kept-at : (s : Setup) (group : ℕ) → group < 3 → getD (groupsKept s) group false ≡ keeps s group
-unfolding groupsKept
-kept-at s = each (λ n. getD (groupsKept s) n false ≡ keeps s n) refl refl refl
 
 -- the values of a group
 pub values-at : (s : Setup) (readings : List (List ℤ)) (group : ℕ) → group < 3 → valuesFor (groupValues s readings) group ≡ valuesAt s readings group

@@ -1,9 +1,9 @@
 -- Laws of fitness: what each bit of a status byte does to an axis (01, Status). Assumes nothing.
-use Prim.Native.Nat.{ℕ, _≤_}
+use Prim.Native.Nat.{ℕ}
 use mathlib.Core.Bool.{Bool, true, false, not, _&&_, _||_}
 use mathlib.Core.Path.{_≡_, refl, ap}
 use native.Mathlib.Omega.{arith}
-use Rattle.motion.specs.Status.{isSet, unfit, fit, flagged}
+use Rattle.motion.specs.Status.{isSet, unfit, fit}
 
 module _ (status axis : ℕ) where
   -- integrity or start-up leaves no axis fit
@@ -35,8 +35,3 @@ module _ (status axis : ℕ) where
   pub fit-clear : (isSet status 7 || isSet status 6) ≡ false → (isSet status 3 || isSet status 4) ≡ false → fit status axis ≡ true
   unfolding unfit
   fit-clear e n = rw (e, n)
-
--- at most three channels are flagged
-pub flagged-few : (status : ℕ) → flagged status ≤ 3
-unfolding flagged
-flagged-few status = omega arith

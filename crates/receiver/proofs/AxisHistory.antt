@@ -1,8 +1,8 @@
 -- The total of an axis in the answer at a place: its own sightings up to that place alone decide it.
 -- Assumes nothing.
-use Prim.Native.Nat.{ℕ, zero, suc, _+_, _*_, _≤_, _<_}
+use Prim.Native.Nat.{ℕ, zero, suc, _+_, _*_, _≤_, _<_, _^_}
 use mathlib.Core.Path.{_≡_, refl, sym, ap, _∙_}
-use mathlib.Core.Bool.{Bool, true}
+use mathlib.Core.Bool.{Bool, true, false, cond}
 use mathlib.Core.List.{List, [], _∷_, map}
 use native.Mathlib.Decide.{decLt}
 use native.Mathlib.Omega.{arith}
@@ -11,9 +11,9 @@ use lib.ListN.{length, take, getD, length-map}
 use lib.Seq.{length-take-le}
 use Rattle.setup.specs.declared.Setup.{Setup}
 use Rattle.wire.specs.Fields.{fieldsOf}
-use Rattle.motion.specs.Totals.{Sighting, keptStep, keeps, axisAt, none, totalOf, totalAt, totalDouble, doubleAt}
+use Rattle.motion.specs.Totals.{Sighting, keptStep, keeps, axisAt, none, totalOf, totalAt, totalDouble, doubleAt, after}
 use Rattle.motion.specs.declared.Axis.{Axis}
-use Rattle.motion.proofs.Bounds.{keptAfter, step-bound}
+use Rattle.motion.proofs.Bounds.{keptAfter, step-bound, step-not-kept, after-within}
 use Rattle.motion.proofs.NineAxes.{each, step-at, total-at, double-at}
 use Rattle.scan.specs.Carry.{steps, carriedAfter}
 use Rattle.scan.proofs.CarryLaws.{told-at, told-beyond}
@@ -32,6 +32,18 @@ pub after-kept : (a : Axis) (ss : List Sighting) → axisAfter true a ss ≡ kep
 unfolding axisAfter keptAfter
 after-kept a [] = refl
 after-kept a (s ∷ ss) = after-kept (keptStep true a s) ss
+
+-- an axis that keeps no total stays as it is
+after-idle : (a : Axis) (ss : List Sighting) → axisAfter false a ss ≡ a
+unfolding axisAfter
+after-idle a [] = refl
+after-idle a (s ∷ ss) = after-idle (keptStep false a s) ss ∙ step-not-kept a s
+
+-- by 01's rule for one axis, up to 2 ^ 30 datagrams
+pub after-ruled :
+    (kept : Bool) (ss : List Sighting) → length ss ≤ 2 ^ 30 → axisAfter kept noAxis ss ≡ cond kept (after noAxis ss) noAxis
+after-ruled true ss h = after-kept noAxis ss ∙ after-within noAxis ss 0 (omega arith) (omega arith)
+after-ruled false ss h = after-idle noAxis ss
 
 after-take :
     (kept : Bool) (a : Axis) (ss : List Sighting) (i : ℕ) → i < length ss

@@ -2,13 +2,14 @@
 -- Assumes nothing.
 use Prim.Native.Nat.{ℕ, suc, _+_, _*_, _^_, _≤_, _<_}
 use mathlib.Core.Path.{_≡_, refl, sym, ap, _∙_, subst}
-use mathlib.Core.Bool.{Bool, true}
+use mathlib.Core.Bool.{Bool, true, cond}
 use mathlib.Core.List.{List, [], _∷_}
 use native.Mathlib.Nat.{mul-le-mul-right}
 use native.Mathlib.Omega.{arith}
 use lib.Ieee.{Float}
 use lib.Ieee.Exact.{HasValue}
 use lib.IntN.{ℤ, pos, natAbs, _-ℤ_, _*ℤ_}
+use lib.Seq.{length-take-le}
 use lib.ListN.{length, take, getD, length-map}
 use Rattle.integers.proofs.Folding.{abs-of-range}
 use Rattle.setup.specs.Setup.{judged, lengthOf}
@@ -39,19 +40,21 @@ use Rattle.scan.proofs.StreamLaws.{every-stream, reports-no-ten}
 use Rattle.search.specs.Search.{isDatagram, verdictOf}
 use Rattle.search.proofs.ByteLists.{datagram-parts}
 use Rattle.search.proofs.Datagrams.{shaped, lawful}
-use Rattle.session.specs.Session.{limits, noAxis, freshOf, opening, isSound}
+use Rattle.session.specs.Session.{limits, noAxis, freshOf, opening, isSound, heldBytes}
 use Rattle.session.specs.declared.Session.{Session}
 use Rattle.session.specs.declared.Opened.{Opened}
 use Rattle.receiver.specs.declared.Datagram.{Datagram}
 use Rattle.receiver.specs.Feed.{nothingKept, consumer, Whole, sessionOf, tell, datagramWith, noDatagram, Calls}
-use Rattle.receiver.specs.Promises.{streamOf, FedInTurn, answersFor, sighting, sightings, shiftOf, Exact, Demand2, Stands, Carry, Demand3}
-use Rattle.session.proofs.Opening.{fresh-sound, opened}
+use Rattle.receiver.specs.Promises.{streamOf, FedInTurn, answersFor, sighting, sightings, shiftOf, EveryCall, Contained, Exact, Demand2, Stands, Carry, Demand3}
+use Rattle.session.proofs.Opening.{fresh-sound, opened, refused-opening, zeros-unsound}
 use Rattle.receiver.proofs.Meanings.{SafeOf}
 use Rattle.receiver.proofs.Keeping.{kept}
 use Rattle.receiver.proofs.Agreement.{Like, StateRun, run-of-states, run-of-sessions}
 use Rattle.receiver.proofs.EachCall.{not-refused, call-kept, empty-call}
 use Rattle.receiver.proofs.Turns.{fed-unsound, fed-over, fed-past}
-use Rattle.receiver.proofs.AxisHistory.{axisAfter, after-kept, axisThen, total-then, double-then, then-bound, sighting-at, sightings-length, alone}
+use Rattle.receiver.proofs.Padding.{padded-front}
+use Rattle.receiver.proofs.KeptHistory.{contained-at}
+use Rattle.receiver.proofs.AxisHistory.{axisAfter, after-kept, after-ruled, axisThen, total-then, double-then, then-bound, sighting-at, sightings-length, alone}
 
 module _ (u : Setup) (ok : judged u ≡ Accepted) where
   -- the session that opening gives is that of the fresh state
@@ -181,7 +184,17 @@ module _ (u : Setup) (ok : judged u ≡ Accepted) where
           ≡ quotient (sighting u group n d .reading) (knownShift (shiftOf u group)))
           refl refl refl axis k
 
-      exact-at : Exact u d (getD os i noDatagram) group axis
+      total-ruled :
+          totalAt (getD os i noDatagram .totals) group axis
+          ≡ totalOf (cond (keeps u group) (totals.after noAxis (take (suc i) (sightings u group axis es))) noAxis)
+      total-ruled =
+          let s = sightings u group axis es in
+          total-in
+          ∙ ap totalOf
+          (after-ruled (keeps u group) (take (suc i) s)
+          (omega (arith, few es a, length-take-le (suc i) s (omega (arith, sightings-length u group axis es)))))
+
+      exact-at : Exact u es i (getD os i noDatagram) group axis
       exact-at =
           record {
             unit =
@@ -191,7 +204,8 @@ module _ (u : Setup) (ok : judged u ≡ Accepted) where
                 (subst (λ (n : ℕ). HasValue (quotient (sighting u group axis d .reading) (knownShift (shiftOf u group))) (negative (sighting u group axis d .reading)) (natAbs (sighting u group axis d .reading)) (2 ^ n))
                 (accepted-shift u ok group h)
                 (reading-exact (sighting u group axis d .reading) (shiftOf u group) reading-small));
-            total = total-value;
+            total = total-ruled;
+            double = total-value;
           }
 
       -- ---- the change of the true value
@@ -286,10 +300,22 @@ module _ (u : Setup) (ok : judged u ≡ Accepted) where
         all-carried = all-carried-at;
       }
 
+  -- what was passed over and is held are those of the scan of the stream
+  scanned :
+      {ps : List (List ℕ)} {os : List Datagram} {rs : List Report} {t : Session} → FedInTurn u ps os rs t
+      → (t .passed ≡ scan (verdictOf u) (streamOf ps) .passed) × (heldBytes t ≡ scan (verdictOf u) (streamOf ps) .held)
+  scanned c =
+      let l = end-state c .scan .held in (
+        ap (λ (s : Session). s .passed) (is-session c) ∙ delivered c .passed,
+        ap heldBytes (is-session c) ∙ padded-front 64 (length l) l refl ∙ delivered c .held,
+      )
+
   pub demand2 : Demand2 u
   demand2 =
       let M = lawful u ok in
       record {
+        opened = ap (λ (o : Opened). isSound (o .session)) (opened u ok) ∙ fresh-sound u ok;
+        fed = a-run;
         parted =
             λ v. (
               scan (verdictOf u) v .datagrams,
@@ -297,14 +323,23 @@ module _ (u : Setup) (ok : judged u ≡ Accepted) where
               λ ds a. among-scan (verdictOf u) (isDatagram u) (M .follows) (M .prompt) a,
             );
         handed-out = λ c es a. answers c es a;
+        contained =
+            λ c es a i l. subst (Contained u es i) (sym (ap (λ (os : List Datagram). getD os i noDatagram) (answers c es a))) (contained-at u ok es i l);
         exact = λ c es a i l group axis h k. exact-at c es a i l group axis h k;
         alone = λ group axis h k ds es e i. alone u group axis h k ds es e i;
-        bytes = λ c. (fed-stream c, bytes-sum c);
-        opened = ap (λ (o : Opened). isSound (o .session)) (opened u ok) ∙ fresh-sound u ok;
-        each-call = λ s e p. call-kept s e p;
-        none-taken = λ s e h. empty-call s e h;
-        ten = λ s p e. fed-unsound s p e;
-        eleven = λ s p e h. fed-over s p e h;
-        twelve = λ s p e h k. fed-past s p e h k;
-        no-other = λ s p e h k n q. not-refused s p e h k n q;
+        bytes = λ c. (fed-stream c, bytes-sum c, scanned c .0, scanned c .1);
       }
+
+-- Every call, on any session and any piece
+pub every-call : EveryCall
+every-call =
+    record {
+      kept = λ s e p. call-kept s e p;
+      none-taken = λ s e h. empty-call s e h;
+      ten = λ s p e. fed-unsound s p e;
+      eleven = λ s p e h. fed-over s p e h;
+      twelve = λ s p e h k. fed-past s p e h k;
+      no-other = λ s p e h k n q. not-refused s p e h k n q;
+      refused-opening =
+          λ u e p. fed-unsound (opening u .session) p (ap (λ (o : Opened). isSound (o .session)) (refused-opening u e) ∙ zeros-unsound);
+    }

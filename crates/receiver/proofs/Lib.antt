@@ -6,6 +6,7 @@ pub mod Turns
 pub mod Keeping
 pub mod Agreement
 pub mod EachCall
+pub mod KeptHistory
 pub mod AxisHistory
 pub mod Demands
 pub mod WorkedExample

@@ -1,24 +1,29 @@
 -- What the request asks of feeding (00-mission, demands 2 and 3; 01, How firmly it is promised, Totals), as types over the rules.
 -- proofs/Demands.antt has a term of Demand2 and of Demand3 for every setup that is not refused.
-use Prim.Native.Nat.{ℕ, _+_, _*_, _^_, _≤_, _<_}
-use mathlib.Core.Bool.{true, false}
-use mathlib.Core.List.{List, [], map}
+use Prim.Native.Nat.{ℕ, suc, _+_, _-_, _*_, _^_, _≤_, _<_}
+use mathlib.Core.Bool.{true, false, cond}
+use mathlib.Core.List.{List, [], _∷_, map}
 use mathlib.Core.Path.{_≡_}
+use lib.Dec.{eqb}
 use lib.IntN.{ℤ, pos, natAbs, _-ℤ_, _*ℤ_}
 use lib.Ieee.Exact.{HasValue}
-use lib.ListN.{length, getD}
+use lib.ListN.{length, take, getD}
 use Rattle.integers.specs.Rounding.{floor}
-use Rattle.setup.specs.Setup.{lengthOf}
+use Rattle.setup.specs.Setup.{judged, lengthOf}
 use Rattle.setup.specs.declared.Setup.{Setup}
+use Rattle.setup.specs.declared.Judgement as judgement
 use Rattle.setup.specs.declared.Judgement.the-variants.{Accepted}
-use Rattle.wire.specs.Fields.{fieldsOf}
+use Rattle.wire.specs.Fields.{fieldsOf, besidesReadings}
+use Rattle.motion.specs.Status.{flagged}
+use Rattle.motion.specs.Gaps.{gapAt}
 use Rattle.motion.specs.Doubles.{negative, plusZero, unitOf, doublesIn, valuesFor}
-use Rattle.motion.specs.Totals.{Sighting, keeps, seen, totalAt, doubleAt, fitReadings, fitBefore, readingOf, Close}
+use Rattle.motion.specs.Totals.{Sighting, keeps, seen, totalAt, doubleAt, fitReadings, fitBefore, readingOf, Close, totalOf, after}
+use Rattle.scan.specs.Scan.{scan}
 use Rattle.scan.specs.Calls.{Report}
 use Rattle.scan.specs.Stream.{stream, reports, NoTen, Among}
 use Rattle.scan.specs.Carry.{told}
-use Rattle.search.specs.Search.{isDatagram}
-use Rattle.session.specs.Session.{limits, isSound, opening}
+use Rattle.search.specs.Search.{isDatagram, verdictOf}
+use Rattle.session.specs.Session.{noAxis, limits, heldBytes, isSound, opening}
 use Rattle.session.specs.declared.Session.{Session}
 use Rattle.receiver.specs.declared.Datagram.{Datagram}
 use Rattle.receiver.specs.declared.Answer.the-variants.{Waiting, Refused}
@@ -68,43 +73,10 @@ pub record CallKept (s : Session) (p : List ℕ) : Type 0 where
       lengthOf (s .setup) * feedOf s p .session .datagrams .0 + feedOf s p .session .passed + feedOf s p .session .count
       ≡ feedOf s p .session .fed
 
--- what comes back with the datagram d, in the answer o: each double is its reading over 2 ^ shift, or its total over 2 ^ shift, without any rounding
-pub record Exact (u : Setup) (d : List ℕ) (o : Datagram) (group axis : ℕ) : Type 0 where
-  pub unit : unitOf (valuesFor (o .values) group) ≡ getD (u .units) group 0
-  pub value :
-      HasValue (getD (doublesIn (valuesFor (o .values) group)) axis plusZero) (negative (sighting u group axis d .reading))
-      (natAbs (sighting u group axis d .reading)) (2 ^ shiftOf u group)
-  pub total :
-      HasValue (doubleAt (o .doubles) group axis) (negative (totalAt (o .totals) group axis .steps))
-      (natAbs (totalAt (o .totals) group axis .steps)) (2 ^ shiftOf u group)
-
-pub record Demand2 (u : Setup) : Type 0 where
-  -- every stream is acceptable datagrams, whole and in order, among bytes at which none begins, in one way only
-  pub parted :
-      (v : List ℕ)
-      → (es : List (List ℕ)) × Among (isDatagram u) v es × ((ds : List (List ℕ)) → Among (isDatagram u) v ds → ds ≡ es)
-  -- these are handed out, no more and no fewer, each with what the rules give for it
-  pub handed-out :
-      {ps : List (List ℕ)} {os : List Datagram} {rs : List Report} {t : Session} → FedInTurn u ps os rs t
-      → (es : List (List ℕ)) → Among (isDatagram u) (streamOf ps) es → os ≡ answersFor u es
-  pub exact :
-      {ps : List (List ℕ)} {os : List Datagram} {rs : List Report} {t : Session} → FedInTurn u ps os rs t
-      → (es : List (List ℕ)) → Among (isDatagram u) (streamOf ps) es
-      → (i : ℕ) → i < length es → (group axis : ℕ) → group < 3 → axis < 3
-      → Exact u (getD es i []) (getD os i noDatagram) group axis
-  -- a total depends only on its own axis's readings, its group's status bytes and which datagrams were handed out
-  pub alone :
-      (group axis : ℕ) → group < 3 → axis < 3
-      → (ds es : List (List ℕ)) → sightings u group axis ds ≡ sightings u group axis es → (i : ℕ)
-      → (totalAt (getD (answersFor u ds) i noDatagram .totals) group axis ≡ totalAt (getD (answersFor u es) i noDatagram .totals) group axis)
-      × (doubleAt (getD (answersFor u ds) i noDatagram .doubles) group axis ≡ doubleAt (getD (answersFor u es) i noDatagram .doubles) group axis)
-  -- bytes fed are the stream's, and = datagram length × datagrams + bytes passed over + bytes held
-  pub bytes :
-      {ps : List (List ℕ)} {os : List Datagram} {rs : List Report} {t : Session} → FedInTurn u ps os rs t
-      → (t .fed ≡ length (streamOf ps)) × (lengthOf u * length os + t .passed + t .count ≡ t .fed)
-  -- the session that opening gives isn't turned down by 10, nor is any that a call then returns
-  pub opened : isSound (opening u .session) ≡ true
-  pub each-call : (s : Session) → isSound s ≡ true → (p : List ℕ) → CallKept s p
+-- every call, on any session and any piece
+pub record EveryCall : Type 0 where
+  -- no session that a call returns is turned down by 10, if the one that it was given isn't
+  pub kept : (s : Session) → isSound s ≡ true → (p : List ℕ) → CallKept s p
   -- a piece of 0 bytes is taken and hands out nothing
   pub none-taken :
       (s : Session) → isSound s ≡ true → length (s .held) ≡ 64
@@ -116,6 +88,65 @@ pub record Demand2 (u : Setup) : Type 0 where
   pub no-other :
       (s : Session) (p : List ℕ) → isSound s ≡ true → length p ≤ 4096 → s .fed + length p ≤ 2 ^ 34
       → (n : ℕ) → feedOf s p .answer ≡ Refused n → ⊥
+  -- what a refused opening gives back is turned down by 10
+  pub refused-opening :
+      (u : Setup) {n : ℕ} → judged u ≡ judgement.the-variants.Refused n → (p : List ℕ) → feedOf (opening u .session) p ≡ refusal (opening u .session) 10
+
+-- what comes back with the datagram at a place of es, in the answer o: its fields, and the gap to the datagram before it
+pub record Contained (u : Setup) (es : List (List ℕ)) (i : ℕ) (o : Datagram) : Type 0 where
+  pub readings : o .gyro ∷ o .accelerometer ∷ o .inclinometer ∷ [] ≡ fieldsOf (u .identifier) (getD es i []) .readings
+  pub fields : o .fields ≡ besidesReadings (fieldsOf (u .identifier) (getD es i []))
+  pub flags : o .flagged ≡ map flagged (fieldsOf (u .identifier) (getD es i []) .statuses)
+  pub gap :
+      o .gap ≡ gapAt (u .rate) (eqb i 0) (fieldsOf (u .identifier) (getD es (i - 1) []) .counter) (fieldsOf (u .identifier) (getD es i []) .counter)
+
+-- the total of an axis at that place: by the rule for one axis over what it sees up to there, if it keeps one, else 0 and not begun;
+-- each double is its reading, or its total, over 2 ^ shift, without any rounding
+pub record Exact (u : Setup) (es : List (List ℕ)) (i : ℕ) (o : Datagram) (group axis : ℕ) : Type 0 where
+  pub unit : unitOf (valuesFor (o .values) group) ≡ getD (u .units) group 0
+  pub value :
+      HasValue (getD (doublesIn (valuesFor (o .values) group)) axis plusZero) (negative (sighting u group axis (getD es i []) .reading))
+      (natAbs (sighting u group axis (getD es i []) .reading)) (2 ^ shiftOf u group)
+  pub total :
+      totalAt (o .totals) group axis
+      ≡ totalOf (cond (keeps u group) (after noAxis (take (suc i) (sightings u group axis es))) noAxis)
+  pub double :
+      HasValue (doubleAt (o .doubles) group axis) (negative (totalAt (o .totals) group axis .steps))
+      (natAbs (totalAt (o .totals) group axis .steps)) (2 ^ shiftOf u group)
+
+pub record Demand2 (u : Setup) : Type 0 where
+  -- the session that opening gives isn't turned down by 10, and every list of pieces can be fed to it in turn
+  pub opened : isSound (opening u .session) ≡ true
+  pub fed :
+      (ps : List (List ℕ)) → (os : List Datagram) × (rs : List Report) × (t : Session) × FedInTurn u ps os rs t
+  -- every stream is acceptable datagrams, whole and in order, among bytes at which none begins, in one way only
+  pub parted :
+      (v : List ℕ)
+      → (es : List (List ℕ)) × Among (isDatagram u) v es × ((ds : List (List ℕ)) → Among (isDatagram u) v ds → ds ≡ es)
+  -- these are handed out, no more and no fewer, each with what the rules give for it
+  pub handed-out :
+      {ps : List (List ℕ)} {os : List Datagram} {rs : List Report} {t : Session} → FedInTurn u ps os rs t
+      → (es : List (List ℕ)) → Among (isDatagram u) (streamOf ps) es → os ≡ answersFor u es
+  -- its own fields, the gap to the one before it, its totals, and exact doubles
+  pub contained :
+      {ps : List (List ℕ)} {os : List Datagram} {rs : List Report} {t : Session} → FedInTurn u ps os rs t
+      → (es : List (List ℕ)) → Among (isDatagram u) (streamOf ps) es → (i : ℕ) → i < length es → Contained u es i (getD os i noDatagram)
+  pub exact :
+      {ps : List (List ℕ)} {os : List Datagram} {rs : List Report} {t : Session} → FedInTurn u ps os rs t
+      → (es : List (List ℕ)) → Among (isDatagram u) (streamOf ps) es
+      → (i : ℕ) → i < length es → (group axis : ℕ) → group < 3 → axis < 3
+      → Exact u es i (getD os i noDatagram) group axis
+  -- a total depends only on its own axis's readings, its group's status bytes and which datagrams were handed out
+  pub alone :
+      (group axis : ℕ) → group < 3 → axis < 3
+      → (ds es : List (List ℕ)) → sightings u group axis ds ≡ sightings u group axis es → (i : ℕ)
+      → (totalAt (getD (answersFor u ds) i noDatagram .totals) group axis ≡ totalAt (getD (answersFor u es) i noDatagram .totals) group axis)
+      × (doubleAt (getD (answersFor u ds) i noDatagram .doubles) group axis ≡ doubleAt (getD (answersFor u es) i noDatagram .doubles) group axis)
+  -- bytes fed are the stream's, and = datagram length × datagrams + bytes passed over + bytes held; passed over and held are those of 01's scan
+  pub bytes :
+      {ps : List (List ℕ)} {os : List Datagram} {rs : List Report} {t : Session} → FedInTurn u ps os rs t
+      → (t .fed ≡ length (streamOf ps)) × (lengthOf u * length os + t .passed + t .count ≡ t .fed)
+      × (t .passed ≡ scan (verdictOf u) (streamOf ps) .passed) × (heldBytes t ≡ scan (verdictOf u) (streamOf ps) .held)
 
 -- ---- demand 3
 

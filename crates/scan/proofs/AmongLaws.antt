@@ -127,7 +127,3 @@ module _ (verdict : List ℕ → Verdict) (acceptable : List ℕ → Bool) (F : 
     among-scan (then {d = d} {u = u} {ds = ds} x a) =
         ap (λ (l : List (List ℕ)). d ∷ l) (among-scan a)
         ∙ sym (ap (λ (r : Scanned). r .datagrams) (scan-hands verdict follows-stable d u (F .acceptable-hands d u x)))
-
-    -- so for every stream one and only one list
-    pub among-one : {u : List ℕ} {ds es : List (List ℕ)} → Among acceptable u ds → Among acceptable u es → ds ≡ es
-    among-one a b = among-scan a ∙ sym (among-scan b)

@@ -12,7 +12,7 @@ use Rattle.scan.specs.Scan.{Verdict}
 use Rattle.scan.specs.Calls.{State, Limits, Answer, datagram, waiting, refused, refusing, feed}
 use Rattle.scan.specs.Stream.{joined, Among, end, other, then}
 use Rattle.scan.specs.Carry.{Consumer, steps, tells, told, carriedAfter, reply, Session, carrying}
-use Rattle.scan.proofs.CallsLaws.{call-fed, feed-unsound, View, over, past, made, view, refused-same, refused-number}
+use Rattle.scan.proofs.CallsLaws.{call-fed, feed-unsound, View, over, past, made, view, refused-same}
 
 -- bytes fed grow by the bytes that a call takes, none where it is refused
 pub feed-fed :
@@ -39,9 +39,6 @@ module _ {X O : Type 0} (K : Consumer X O) where
     pub session-refused : carrying K s (feed verdict L ok (s .scan) p) ≡ refusing n s
     session-refused =
         ap (carrying K s) (refused-same verdict L (s .scan) p ok (reply-refused (s .carried) (feed verdict L ok (s .scan) p .answer) e))
-
-    pub session-number : (10 ≤ n) × (n ≤ 12)
-    session-number = refused-number verdict L (s .scan) p ok (reply-refused (s .carried) (feed verdict L ok (s .scan) p .answer) e)
 
   -- what comes back with the datagram at a place: of what is carried after those before it
   pub told-at :

@@ -2,19 +2,19 @@
 -- Assumes nothing.
 use Prim.Native.Nat.{ℕ, zero, suc, _+_, _≤_, _<_}
 use mathlib.Core.Path.{_≡_, refl, sym, ap, _∙_, subst}
-use mathlib.Core.Bool.{Bool, true, false}
+use mathlib.Core.Bool.{Bool, true}
 use mathlib.Core.List.{List, [], _∷_, _++_, append-assoc, append-nil}
 use native.Mathlib.Nat.{zero-add, add-zero}
 use native.Mathlib.Omega.{arith}
 use lib.ListN.{length, take, drop, length-append, length-drop, take-append-drop}
 use lib.Seq.{length-take-le, take-length}
 use Rattle.scan.specs.Scan.{Verdict, Scanned, scan, holding, passing, handing, First, ends, finds, first, Stable}
-use Rattle.scan.specs.Calls.{State, Limits, sound, Answer, datagram, waiting, refused, Fed, refusing, taking, takes, call, feed, whole, turnedDown, Report, taking-more, none, refuse, wait, hand, skip}
-use Rattle.scan.specs.Stream.{joined, outcome, reports, NoTen, stream, Among, Lawful}
+use Rattle.scan.specs.Calls.{State, Limits, Answer, datagram, waiting, refused, Fed, refusing, taking, takes, call, feed, whole, turnedDown, Report, taking-more, none, refuse, wait, hand, skip}
+use Rattle.scan.specs.Stream.{joined, outcome, reports, stream, Lawful}
 use Rattle.scan.specs.Carry.{Consumer, tells, told, carriedAfter, Session, freshSession, soundSession, carrying, feedSession, SessionRun, Keeps, plain, Delivered}
 use Rattle.scan.proofs.ScanLaws.{scan-waits, scan-ends, scan-finds, Parted, parted-at}
-use Rattle.scan.proofs.CallsLaws.{and-true, and-parts, atOnce, feed-unsound, feed-over, feed-past, feed-at-once, Sound, sound-parts, parts-sound, View, over, past, made, view, fresh-sound, feed-sound, takes-le, takes-all}
-use Rattle.scan.proofs.StreamLaws.{outcome-over, outcome-past, outcome-whole, stream-down, reports-down, stream-whole, reports-whole, stream-rest, reports-rest, outcome-not-ten, reports-no-ten, takenOf, reports-taken}
+use Rattle.scan.proofs.CallsLaws.{and-true, Sound, parts-sound, View, over, past, made, view, fresh-sound, feed-sound, takes-le, takes-all}
+use Rattle.scan.proofs.StreamLaws.{outcome-over, outcome-past, outcome-whole, stream-down, reports-down, stream-whole, reports-whole, stream-rest, reports-rest}
 use Rattle.scan.proofs.AmongLaws.{follows-stable, scan-among, among-scan}
 
 -- the answers are three
@@ -33,11 +33,6 @@ module _ {X O : Type 0} (K : Consumer X O) (rule : List ℕ → Bool) (L : Limit
     pub scan : Sound rule L (s .scan)
     pub fit : K .fit (s .scan .handed) (s .carried) ≡ true
 
-  pub sound-safe : (s : Session X) → soundSession K rule L s ≡ true → Safe s
-  sound-safe s e =
-      let a = and-parts (sound rule L (s .scan)) (K .fit (s .scan .handed) (s .carried)) e in
-      record { scan = sound-parts rule L (s .scan) (a .0); fit = a .1 }
-
   pub safe-sound : (s : Session X) → Safe s → soundSession K rule L s ≡ true
   safe-sound s Z = and-true (parts-sound rule L (s .scan) (Z .scan)) (Z .fit)
 
@@ -45,31 +40,6 @@ module _ {X O : Type 0} (K : Consumer X O) (verdict : List ℕ → Verdict) (acc
     (M : Lawful verdict acceptable rule) (Q : Keeps K acceptable) where
   stable : Stable verdict
   stable = follows-stable verdict acceptable (M .follows)
-
-  -- a call on a session by its case: refused by 10, by 11, by 12, or by the scan of the bytes held and the piece at once
-  module _ (s : Session X) (p : List ℕ) where
-    pub session-unsound : soundSession K rule L s ≡ false → feedSession K verdict rule L s p ≡ refusing 10 s
-    unfolding feedSession
-    session-unsound e = rw (e, feed-unsound verdict L (s .scan) p)
-
-    pub session-over : Safe K rule L s → L .piece < length p → feedSession K verdict rule L s p ≡ refusing 11 s
-    unfolding feedSession
-    session-over Z h = rw (safe-sound K rule L s Z, feed-over verdict L (s .scan) p h)
-
-    pub session-past :
-        Safe K rule L s → length p ≤ L .piece → L .session < s .scan .fed + length p → feedSession K verdict rule L s p ≡ refusing 12 s
-    unfolding feedSession
-    session-past Z h k = rw (safe-sound K rule L s Z, feed-past verdict L (s .scan) p h k)
-
-    pub session-at-once :
-        Safe K rule L s → length p ≤ L .piece → s .scan .fed + length p ≤ L .session
-        → feedSession K verdict rule L s p ≡ carrying K s (atOnce (s .scan) p (first verdict (s .scan .held ++ p)))
-    unfolding feedSession
-    session-at-once Z h k =
-        rw (
-          safe-sound K rule L s Z,
-          feed-at-once verdict stable (M .prompt) rule (M .holds) L (s .scan) p (Z .scan) h k,
-        )
 
   -- what a call on a safe session gives, by its case
   data Step (s : Session X) (p : List ℕ) : Fed (Session X) O → Type 0 where
@@ -181,15 +151,6 @@ module _ {X O : Type 0} (K : Consumer X O) (verdict : List ℕ → Verdict) (acc
         passed = omega (arith, G .passed);
         held = G .held;
       }
-
-  -- A sound session is never refused by 10
-  pub never-ten : (s : Session X) (p : List ℕ) → Safe K rule L s → feedSession K verdict rule L s p .answer ≡ refused 10 → ⊥
-  never-ten s p Z e = go (step s p Z) e
-    where
-      go : {c : Fed (Session X) O} → Step s p c → c .answer ≡ refused 10 → ⊥
-      go (down m o) q = let z : m ≡ 10 = cc in outcome-not-ten L (s .scan .fed) (length p) (o ∙ ap turnedDown z)
-      go (waited n h a b x) q = no-answer refl q
-      go (handed n d r k a b l x) q = not-refused refl q
 
   -- the scan of what a session holds and of the stream that the pieces make
   abbrev pub found : Session X → List (List ℕ) → Scanned
@@ -426,20 +387,6 @@ module _ {X O : Type 0} (K : Consumer X O) (verdict : List ℕ → Verdict) (acc
             (G .passed ∙ sym (G′ .passed)) (G .fed ∙ sym (G′ .fed)),
       )
 
-  -- No call of a run from a safe session answers 10
-  pub run-no-ten :
-      {s t : Session X} {ps : List (List ℕ)} {os : List O} {rs : List Report} → SessionRun K verdict rule L s ps os rs t
-      → Safe K rule L s → NoTen rs
-  run-no-ten {s} {t} {ps} c Z = subst NoTen (sym (run-result c Z .reported)) (reports-no-ten L (s .scan .fed) ps)
-
-  -- Bytes fed are the bytes taken
-  pub run-taken :
-      {s t : Session X} {ps : List (List ℕ)} {os : List O} {rs : List Report} → SessionRun K verdict rule L s ps os rs t
-      → Safe K rule L s → t .scan .fed ≡ s .scan .fed + takenOf rs
-  run-taken {s} {t} {ps} c Z =
-      let R = run-result c Z in
-      omega (arith, R .gives .fed, ap takenOf (R .reported), reports-taken L (s .scan .fed) ps)
-
   pub fresh-safe : Safe K rule L (freshSession K)
   fresh-safe = record { scan = fresh-sound verdict stable (M .prompt) rule (M .holds) L; fit = Q .at-start }
 
@@ -469,22 +416,6 @@ module _ {X O : Type 0} (K : Consumer X O) (verdict : List ℕ → Verdict) (acc
         sum = R .safe .scan .sum;
         safe = safe-sound K rule L t (R .safe);
       }
-
-  -- whatever way the stream is datagrams among other bytes
-  pub told-of :
-      {ps : List (List ℕ)} {os : List O} {rs : List Report} {t : Session X} → SessionRun K verdict rule L (freshSession K) ps os rs t
-      → (ds : List (List ℕ)) → Among acceptable (stream L 0 ps) ds
-      → (os ≡ told K (K .start) ds) × (t .carried ≡ carriedAfter K (K .start) ds)
-  told-of c ds a =
-      let D = always-delivered c in
-      let e = sym (D .only ds a) in
-      (D .handed-out ∙ ap (told K (K .start)) e, D .carried ∙ ap (carriedAfter K (K .start)) e)
-
--- With nothing carried, what is handed out are the datagrams themselves
-pub told-plain : (ds : List (List ℕ)) → told plain tt ds ≡ ds
-unfolding told
-told-plain [] = refl
-told-plain (d ∷ ds) = ap (λ (l : List (List ℕ)). d ∷ l) (told-plain ds)
 
 pub plain-keeps : (acceptable : List ℕ → Bool) → Keeps plain acceptable
 plain-keeps acceptable = record { at-start = refl; at-step = λ n x d a e. refl }

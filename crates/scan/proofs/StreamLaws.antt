@@ -127,21 +127,6 @@ reports-taken L n (p ∷ ps) =
     let v : List ℕ = stream L (n + counted o (length p)) ps in
     omega (arith, reports-taken L (n + counted o (length p)) ps, length-kept o p, length-append (kept o p) v)
 
--- A stream stays within a session's bytes
-pub stream-most : (L : Limits) (n : ℕ) (ps : List (List ℕ)) → n ≤ L .session → n + length (stream L n ps) ≤ L .session
-unfolding stream
-stream-most L n [] h = omega arith
-stream-most L n (p ∷ ps) h = go (outcome L n (length p)) (judged L n (length p)) refl (λ (m : ℕ) (l : m ≤ L .session). stream-most L m ps l)
-  where
-    go :
-        (o : Outcome) → Judged L n (length p) → outcome L n (length p) ≡ o
-        → ((m : ℕ) → m ≤ L .session → m + length (stream L m ps) ≤ L .session)
-        → n + length (kept o p ++ stream L (n + counted o (length p)) ps) ≤ L .session
-    go (turnedDown m) j e on = rw (add-zero n) (on n h)
-    go whole (over a q) e on = absurd (let z : _≡_ {A = ℕ} 0 1 = cc in omega arith)
-    go whole (past a b q) e on = absurd (let z : _≡_ {A = ℕ} 0 1 = cc in omega arith)
-    go whole (taken a b q) e on = omega (arith, on (n + length p) b, length-append p (stream L (n + length p) ps))
-
 -- Pieces that keep to the limits are all taken, joined
 abbrev pub Within : ℕ → List (List ℕ) → Type 0
 Within m [] = Unit {0}

@@ -2,14 +2,13 @@
 use Prim.Native.Nat.{ℕ, _+_, _-_, _*_, _≤_}
 use native.Mathlib.Omega.{arith}
 use mathlib.Core.Bool.{Bool, true, false, not, _&&_, _||_}
-use mathlib.Core.List.{List, _∷_}
+use mathlib.Core.List.{List}
 use mathlib.Core.Path.{_≡_, refl, ap, _∙_}
 use lib.Dec.{eqb, ltb, leb}
-use lib.ListN.{length, getD, drop}
-use lib.Seq.{drop-cons}
+use lib.ListN.{length, getD}
 use borrow.Author.Tests.{ltb-true, ltb-false, leb-true, le-leb, lt-leb, eqb-true, eq-eqb, ne-eqb, not-false}
 use Rattle.integers.proofs.Ranges.{and-split}
-use Rattle.setup.specs.Layout.{bytes, partsAt, layoutOf, lengthIn}
+use Rattle.setup.specs.Layout.{layoutOf, lengthIn}
 use Rattle.setup.specs.Setup.{isListed, lengthOf}
 use Rattle.setup.specs.declared.Found.{Found}
 use Rattle.setup.specs.declared.Found.the-variants.{Listed, Unlisted}
@@ -82,19 +81,6 @@ module _ (u : Setup) (s : List ℕ) where
       let a = accepted e in
       let l = listed-length u (a .listed) in
       (omega arith, omega arith)
-
-  -- it isn't empty, and begins with the identifier
-  pub accepted-head : acceptable u s ≡ true → s ≡ u .identifier ∷ drop 1 s
-  accepted-head e =
-      let l = accepted-length e in
-      drop-cons s 0 0 (omega arith) ∙ ap (λ b. b ∷ drop 1 s) (accepted e .first)
-
-  -- all its parts are there
-  pub accepted-whole : acceptable u s ≡ true → bytes (partsAt (u .identifier)) ≤ length s
-  accepted-whole e =
-      let a = accepted e in
-      let l = listed-length u (a .listed) in
-      omega arith
 
 -- of the setup only the identifier and the termination matter
 pub same-acceptable : (u v : Setup) (s : List ℕ) → u .identifier ≡ v .identifier → u .termination ≡ v .termination → acceptable u s ≡ acceptable v s

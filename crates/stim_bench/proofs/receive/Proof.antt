@@ -1,0 +1,71 @@
+-- `stim_bench::receive` meets its contract: what is allowed yet is what the first bytes left. Assumes nothing.
+use native.Mathlib.Omega.{arith}
+use borrow.Author.Needs.{needs}
+use Rattle.stim_bench.proofs.receive.Statement.{statement}
+use Rattle.stim_bench.proofs.receive.Tie as tie
+
+sub-feed-bytes : tie.Need-sub-feed-bytes
+sub-feed-bytes c = search needs
+
+part-feed-bytes-start : tie.Need-part-feed-bytes-start
+part-feed-bytes-start c = search needs
+
+part-feed-bytes-end : tie.Need-part-feed-bytes-end
+part-feed-bytes-end c = search needs
+
+feed-bytes-requires : tie.Need-feed-bytes-requires
+feed-bytes-requires c κs = search needs
+
+has-ended-requires : tie.Need-has-ended-requires
+has-ended-requires c κs = search needs
+
+same-length : tie.Need-same-length
+same-length c = search needs
+
+same-length-2 : tie.Need-same-length-2
+same-length-2 c = search needs
+
+returns : tie.Need-returns
+returns c = search needs
+
+sub-receive-rest : tie.Need-sub-receive-rest
+sub-receive-rest c = search needs
+
+sub-receive-rest-2 : tie.Need-sub-receive-rest-2
+sub-receive-rest-2 c = search needs
+
+receive-rest-requires : tie.Need-receive-rest-requires
+receive-rest-requires c κs =
+    let m = c .before .before .before .before .before .before .before .feed-bytes .ensures in
+    let p = c .before .before .before .before .before .before .before .before .before .before .before .before .before .pre in (
+      (omega (arith, m .0), omega (arith, p .0 .3, c .before .before .before .before .before .before .output .given)),
+      record { sound = m .1 .sound; room = omega (arith, m .1 .fed, p .1 .room, p .0 .0, p .0 .2, c .before .before .before .before .before .before .before .before .before .feed-bytes-arg .given) },
+    )
+
+same-length-3 : tie.Need-same-length-3
+same-length-3 c = search needs
+
+same-length-4 : tie.Need-same-length-4
+same-length-4 c = search needs
+
+returns-2 : tie.Need-returns-2
+returns-2 c = search needs
+
+pub receive-spec : {M : Type 1} → statement M
+receive-spec =
+    tie.close
+    (tie.spec
+    sub-feed-bytes
+    part-feed-bytes-start
+    part-feed-bytes-end
+    feed-bytes-requires
+    has-ended-requires
+    same-length
+    same-length-2
+    returns
+    sub-receive-rest
+    sub-receive-rest-2
+    receive-rest-requires
+    same-length-3
+    same-length-4
+    returns-2)
