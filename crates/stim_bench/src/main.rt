@@ -1,21 +1,17 @@
 // The bench program (01, The text line): standard input is a setup line and then the stream, standard output a text line for each datagram.
 ghost use mathlib.Core.Path.{_≡_};
-ghost use mathlib.Core.Bool.{not};
+ghost use mathlib.Core.Bool.{not, cond};
 ghost use Prim.Native.Nat.{_+_, _-_, _≤_, _<_, min};
 ghost use lib.ListN.{length};
-ghost use Rattle.text.specs.TextLine.{longestLine};
-ghost use Rattle.receiver.specs.Feed.{feedOf};
-ghost use Rattle.stim_bench.specs.Bench.{lineEnd, GotWithin, nextPlace, isGoing, answerAt, bufferAt, Feedable, Made, FedAtMost};
+ghost use Rattle.lines.specs.Lines.{enough};
+ghost use Rattle.stim_bench.specs.Bench.{lineEnd, GotWithin, isGoing, Feedable, FedAtMost};
 use libc::STDERR_FILENO;
 use libc::STDIN_FILENO;
 use libc::STDOUT_FILENO;
-use receiver::Answer;
-use receiver::Datagram;
-use receiver::Reply;
+use lines::Received;
 use session::Session;
 use setup::Judgement;
 use setup::Setup;
-use text::Written;
 
 // What one read gave.
 enum Got {
@@ -37,16 +33,10 @@ enum Course {
     Closed,
 }
 
-// How many bytes of the output buffer wait to be written out.
-struct Outlet {
-    used: usize,
-    course: Course,
-}
-
-// What is carried from piece to piece.
+// What is carried from part to part.
 struct Progress {
     session: Session,
-    outlet: Outlet,
+    course: Course,
 }
 
 // The lesser of two numbers.
@@ -68,22 +58,11 @@ fn part_end(at: usize, length: usize) -> usize
     }
 }
 
-// Where to go on in a part after a call that took so many bytes. One that took none, or after which nothing goes on, ends the part.
-fn next_place(at: usize, taken: usize, length: usize, going: bool) -> usize
-    requires { ⌜ at < length ⌝ }
-    ensures { λ r. ⌜ (r ≡ nextPlace at taken length going) × (at < r) × (r ≤ length) × (min (at + taken) length ≤ r) ⌝ }
+// Where to go on behind a part: nowhere if the program ends.
+fn next_place(end: usize, length: usize, going: bool) -> usize
+    ensures { λ r. ⌜ r ≡ cond going end length ⌝ }
 {
-    if !going {
-        return length;
-    }
-    if taken == 0 {
-        return length;
-    }
-    if taken < length - at {
-        at + taken
-    } else {
-        length
-    }
+    if going { end } else { length }
 }
 
 // Where the first line ends: at its 0x0A, or with the bytes.
@@ -134,10 +113,9 @@ fn print_refusal(number: u8) {
     }
 }
 
-fn is_going(outlet: Outlet) -> bool
-    ensures { λ r. ⌜ r ≡ isGoing (outlet .course) ⌝ }
+fn is_going(course: Course) -> bool
+    ensures { λ r. ⌜ r ≡ isGoing course ⌝ }
 {
-    let course = outlet.course;
     match course {
         Course::Going => true,
         Course::Refused(number) => false,
@@ -145,180 +123,60 @@ fn is_going(outlet: Outlet) -> bool
     }
 }
 
-// Writes out the lines that wait.
-fn write_out(output: &[u8], outlet: Outlet) -> Outlet
-    requires { ⌜ outlet .used ≤ length (now output) ⌝ }
-    ensures { λ r. ⌜ r .used ≡ 0 ⌝ }
-{
-    let used = outlet.used;
-    let course = outlet.course;
-    if io::write_all(STDOUT_FILENO, &output[..used]) {
-        return Outlet {
-            used: 0,
-            course: course,
-        };
+// Writes out lines, if standard output takes them.
+fn write_out(lines: &[u8]) -> Course {
+    if io::write_all(STDOUT_FILENO, lines) {
+        return Course::Going;
     }
     tell_closed();
-    Outlet {
-        used: 0,
-        course: Course::Closed,
-    }
+    Course::Closed
 }
 
-// Room for one more line: without it the lines that wait are written out.
-fn make_room(output: &[u8], outlet: Outlet) -> Outlet
-    requires { ⌜ (outlet .used ≤ length (now output)) × (longestLine ≤ length (now output)) ⌝ }
-    ensures { λ r. ⌜ r .used + longestLine ≤ length (now (output .entry)) ⌝ }
+// Feeds a part of at most 4,096 bytes, and writes out its lines.
+fn feed_part(session: Session, part: &[u8], output: &mut [u8]) -> Progress
+    requires { ⌜ Feedable session (length (now part)) × (length (now part) ≤ 4096) × (enough ≤ length (now output)) ⌝ }
+    ensures { λ r. ⌜ FedAtMost session (length (now (part .entry))) (r .session) ⌝ }
 {
-    if output.len() - outlet.used < text::longest_line() {
-        return write_out(output, outlet);
-    }
-    outlet
-}
-
-// Writes the line of a datagram at a place of the output.
-fn append_line(
-    output: &mut [u8],
-    used: usize,
-    setup: Setup,
-    ordinal: u64,
-    datagram: Datagram,
-) -> Written
-    requires { ⌜ used ≤ length (now output) ⌝ }
-    ensures { λ r. ⌜ r ≡ answerAt (now (output .entry)) used setup ordinal datagram ⌝ ∗ ⌜ now (output .exit) ≡ bufferAt (now (output .entry)) used setup ordinal datagram ⌝ }
-{
-    let gap = datagram.gap;
-    let totals = datagram.totals;
-    let fields = datagram.fields;
-    let gyro = datagram.gyro;
-    let accelerometer = datagram.accelerometer;
-    let inclinometer = datagram.inclinometer;
-    let statuses = fields.statuses;
-    text::write_line(
-        &mut output[used..],
-        setup,
-        ordinal,
-        fields.counter,
-        fields.latency,
-        gap,
-        [gyro, accelerometer, inclinometer],
-        statuses,
-        totals,
-    )
-}
-
-// The line of a datagram, behind the lines that wait.
-fn put_line(
-    output: &mut [u8],
-    outlet: Outlet,
-    setup: Setup,
-    ordinal: u64,
-    datagram: Datagram,
-) -> Outlet
-    requires { ⌜ (outlet .used ≤ length (now output)) × (longestLine ≤ length (now output)) ⌝ }
-    ensures { λ r. ⌜ r .used ≤ length (now (output .exit)) ⌝ }
-{
-    let ready = make_room(output, outlet);
-    if !is_going(ready) {
-        return ready;
-    }
-    let used = ready.used;
-    let course = ready.course;
-    let written = append_line(output, used, setup, ordinal, datagram);
-    match written {
-        Written::Line(count) => Outlet {
-            used: used + count,
-            course: course,
-        },
-        Written::Refused(number) => Outlet {
-            used: used,
-            course: Course::Refused(number),
-        },
-    }
-}
-
-// What a call's answer does: a datagram is a line, a refusal ends the program.
-fn put_answer(
-    output: &mut [u8],
-    outlet: Outlet,
-    answer: Answer,
-    setup: Setup,
-    ordinal: u64,
-    datagram: Datagram,
-) -> Outlet
-    requires { ⌜ (outlet .used ≤ length (now output)) × (longestLine ≤ length (now output)) ⌝ }
-    ensures { λ r. ⌜ r .used ≤ length (now (output .exit)) ⌝ }
-{
+    let batch = lines::receive_lines(session, part, output);
+    let answer = batch.answer;
+    let next = batch.session;
     match answer {
-        Answer::Datagram => put_line(output, outlet, setup, ordinal, datagram),
-        Answer::Waiting => outlet,
-        Answer::Refused(number) => Outlet {
-            used: outlet.used,
+        Received::Lines(count) => Progress {
+            session: next,
+            course: write_out(&output[..count]),
+        },
+        Received::Refused(number) => Progress {
+            session: next,
             course: Course::Refused(number),
         },
     }
 }
 
-// A call that isn't refused: the session is sound, the piece isn't too long, and the limit isn't passed.
-fn feed_piece(session: Session, piece: &[u8]) -> Reply
-    requires { ⌜ Feedable session (length (now piece)) × (length (now piece) ≤ 4096) ⌝ }
-    ensures { λ r. ⌜ (r ≡ feedOf session (now (piece .entry))) × Made session (length (now (piece .entry))) r ⌝ }
+// Feeds bytes in parts.
+fn feed_bytes(start: Session, bytes: &[u8], output: &mut [u8]) -> Progress
+    requires { ⌜ Feedable start (length (now bytes)) × (enough ≤ length (now output)) ⌝ }
+    ensures { λ r. ⌜ FedAtMost start (length (now (bytes .entry))) (r .session) ⌝ }
 {
-    receiver::feed(session, piece)
-}
-
-// Feeds a part of at most 4,096 bytes until it is taken.
-fn feed_part(progress: Progress, part: &[u8], output: &mut [u8]) -> Progress
-    requires { ⌜ (progress .outlet .used ≤ length (now output)) × (longestLine ≤ length (now output)) ⌝ }
-    requires { ⌜ Feedable (progress .session) (length (now part)) × (length (now part) ≤ 4096) ⌝ }
-    ensures { λ r. ⌜ (r .outlet .used ≤ length (now (output .exit))) × FedAtMost (progress .session) (length (now (part .entry))) (r .session) ⌝ }
-{
-    let mut session = progress.session;
-    let mut outlet = progress.outlet;
-    let setup = session.setup;
-    let mut at: usize = 0;
-    while at < part.len() {
-        let reply = feed_piece(session, &part[at..]);
-        session = reply.session;
-        let answer = reply.answer;
-        let datagram = reply.datagram;
-        outlet = put_answer(output, outlet, answer, setup, session.datagrams.0, datagram);
-        at = next_place(at, reply.taken, part.len(), is_going(outlet));
-    }
-    Progress {
-        session: session,
-        outlet: outlet,
-    }
-}
-
-// Feeds bytes in parts, and writes out the lines.
-fn feed_bytes(progress: Progress, bytes: &[u8], output: &mut [u8]) -> Progress
-    requires { ⌜ (progress .outlet .used ≤ length (now output)) × (longestLine ≤ length (now output)) ⌝ }
-    requires { ⌜ Feedable (progress .session) (length (now bytes)) ⌝ }
-    ensures { λ r. ⌜ (r .outlet .used ≡ 0) × FedAtMost (progress .session) (length (now (bytes .entry))) (r .session) ⌝ }
-{
-    let mut state = progress;
+    let mut session = start;
+    let mut course = Course::Going;
     let mut at: usize = 0;
     while at < bytes.len() {
         let end = part_end(at, bytes.len());
-        state = feed_part(state, &bytes[at..end], output);
-        let outlet = state.outlet;
-        at = next_place(at, end - at, bytes.len(), is_going(outlet));
+        let progress = feed_part(session, &bytes[at..end], output);
+        session = progress.session;
+        course = progress.course;
+        at = next_place(end, bytes.len(), is_going(course));
     }
-    let session = state.session;
-    let waiting = state.outlet;
-    let written = write_out(output, waiting);
     Progress {
         session: session,
-        outlet: written,
+        course: course,
     }
 }
 
 // Whether the program ends here. The number of a refusal is printed.
-fn has_ended(outlet: Outlet) -> bool
-    ensures { λ r. ⌜ r ≡ not (isGoing (outlet .course)) ⌝ }
+fn has_ended(course: Course) -> bool
+    ensures { λ r. ⌜ r ≡ not (isGoing course) ⌝ }
 {
-    let course = outlet.course;
     match course {
         Course::Going => false,
         Course::Closed => true,
@@ -341,11 +199,10 @@ fn fitting(count: usize, allowed: u64) -> usize
 }
 
 // Feeds what each read gives, until the input ends or one byte more than allowed comes.
-fn receive_rest(progress: Progress, input: &mut [u8], output: &mut [u8], allowed: u64)
-    requires { ⌜ (progress .outlet .used ≤ length (now output)) × (longestLine ≤ length (now output)) ⌝ }
-    requires { ⌜ Feedable (progress .session) allowed ⌝ }
+fn receive_rest(start: Session, input: &mut [u8], output: &mut [u8], allowed: u64)
+    requires { ⌜ Feedable start allowed × (enough ≤ length (now output)) ⌝ }
 {
-    let mut state = progress;
+    let mut session = start;
     let mut left = allowed;
     loop {
         let got = read_some(input);
@@ -353,9 +210,10 @@ fn receive_rest(progress: Progress, input: &mut [u8], output: &mut [u8], allowed
             return;
         };
         let fed = fitting(count, left);
-        state = feed_bytes(state, &input[..fed], output);
-        let outlet = state.outlet;
-        if has_ended(outlet) {
+        let progress = feed_bytes(session, &input[..fed], output);
+        session = progress.session;
+        let course = progress.course;
+        if has_ended(course) {
             return;
         }
         if fed < count {
@@ -367,24 +225,17 @@ fn receive_rest(progress: Progress, input: &mut [u8], output: &mut [u8], allowed
 }
 
 // Receives the stream, whose first bytes lie in the input buffer already: 2^34 bytes, and one more is refused.
-fn receive(session: Session, input: &mut [u8], output: &mut [u8], from: usize, filled: usize)
-    requires { ⌜ (from ≤ filled) × (filled ≤ length (now input)) × (filled ≤ 65536) × (longestLine ≤ length (now output)) ⌝ }
-    requires { ⌜ Feedable session 17179869184 ⌝ }
+fn receive(start: Session, input: &mut [u8], output: &mut [u8], from: usize, filled: usize)
+    requires { ⌜ (from ≤ filled) × (filled ≤ length (now input)) × (filled ≤ 65536) × (enough ≤ length (now output)) ⌝ }
+    requires { ⌜ Feedable start 17179869184 ⌝ }
 {
-    let outlet = Outlet {
-        used: 0,
-        course: Course::Going,
-    };
-    let fresh = Progress {
-        session: session,
-        outlet: outlet,
-    };
-    let first = feed_bytes(fresh, &input[from..filled], output);
-    let written = first.outlet;
-    if has_ended(written) {
+    let progress = feed_bytes(start, &input[from..filled], output);
+    let session = progress.session;
+    let course = progress.course;
+    if has_ended(course) {
         return;
     }
-    receive_rest(first, input, output, 17179869184 - (filled - from) as u64);
+    receive_rest(session, input, output, 17179869184 - (filled - from) as u64);
 }
 
 // Reads until the first line is known: its 0x0A came, or 65 bytes, or the input ended.
@@ -417,7 +268,7 @@ fn read_front(input: &mut [u8]) -> Front
 
 // Judges the first line and receives what comes behind it.
 fn run(input: &mut [u8], output: &mut [u8])
-    requires { ⌜ (65536 ≡ length (now input)) × (65536 ≡ length (now output)) ⌝ }
+    requires { ⌜ (65536 ≡ length (now input)) × (131072 ≡ length (now output)) ⌝ }
 {
     let front = read_front(input);
     let filled = front.filled;
@@ -440,8 +291,15 @@ fn run(input: &mut [u8], output: &mut [u8])
     }
 }
 
+// Room for the lines of any part.
+fn line_room() -> [u8; 131072]
+    ensures { λ r. ⌜ 131072 ≡ length r ⌝ }
+{
+    [0; 131072]
+}
+
 fn main() {
     let mut input = io::large_buffer();
-    let mut output = io::large_buffer();
+    let mut output = line_room();
     run(&mut input, &mut output);
 }

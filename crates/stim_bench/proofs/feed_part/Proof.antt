@@ -1,87 +1,71 @@
--- `stim_bench::feed_part` meets its contract: each call leaves less of the part, and the session counts no more than what is behind. Assumes nothing.
-use Prim.Native.Nat.{_-_, _≤_}
-use mathlib.Core.Path.{_≡_}
-use native.Mathlib.Omega.{arith}
+-- `stim_bench::feed_part` meets its contract: the call isn't refused, and its lines lie in the buffer. Assumes nothing.
+use Prim.Native.Nat.{_≤_}
+use mathlib.Core.Path.{sym}
 use lib.ListN.{length}
+use lib.Seq.{length-take-le}
 use borrow.Author.Needs.{needs}
-use Rattle.stim_bench.specs.Bench.{Feedable, Made, FedAtMost}
+use Rattle.stim_bench.proofs.PartLaws.{fed-part, lines-within}
 use Rattle.stim_bench.proofs.feed_part.Statement.{statement}
 use Rattle.stim_bench.proofs.feed_part.Tie as tie
 
-abbrev Inv-loop : tie.InvT-loop
-Inv-loop part output₀ session₀ outlet₀ setup at₀ output session outlet at =
-    (at ≤ length part) × (outlet .used ≤ length output) × (length output ≡ length output₀) × FedAtMost session₀ at session
+receive-lines-requires : tie.Need-receive-lines-requires
+receive-lines-requires c κs = search needs
 
-abbrev μ-loop : tie.MeasureT-loop
-μ-loop part output₀ session₀ outlet₀ setup at₀ output session outlet at = length part - at
+enum-known-answer : tie.Need-enum-known-answer
+enum-known-answer c = search needs
 
-loop-holds : tie.Need-loop-holds Inv-loop μ-loop
-loop-holds c =
-    (omega arith, omega (arith, c .before .before .before .before .before .pre .0), omega arith, record { sound = c .before .before .before .before .before .pre .1 .0 .sound; fed = omega arith })
+-- the lines lie in the output buffer
+within : (c : tie.After-known-told) → c .before .answer .given .0 .0 ≤ length (c .before .before .before .before .before .before .receive-lines .last .1 .1 .0)
+within c =
+    let a = c .before .before .before .before .before .before .before .before .before .before .args in
+    let p = c .before .before .before .before .before .before .before .before .before .before .pre in
+    let e = c .before .before .before .before .before .before .receive-lines .ensures in
+    lines-within (a .session) (a .part .now) (a .output .now) (p .0) (p .1) (p .2) (e .0) (e .1) (c .before .answer .given .0 .0) (c .before .answer .given .1)
 
-sub-feed-piece : tie.Need-sub-feed-piece Inv-loop μ-loop
-sub-feed-piece c = search needs
+slice-reshare-prefix-write-out : tie.Need-slice-reshare-prefix-write-out
+slice-reshare-prefix-write-out c = within c
 
-part-feed-piece-start : tie.Need-part-feed-piece-start Inv-loop μ-loop
-part-feed-piece-start c = search needs
+slice-aggregate-write-out : tie.Need-slice-aggregate-write-out
+slice-aggregate-write-out c =
+    sym
+    (length-take-le (c .before .before .answer .given .0 .0) (c .before .before .before .before .before .before .before .receive-lines .last .1 .1 .0)
+    (within (c .before)))
 
-part-feed-piece-end : tie.Need-part-feed-piece-end Inv-loop μ-loop
-part-feed-piece-end c = search needs
+write-out-requires : tie.Need-write-out-requires
+write-out-requires c κs = search needs
 
-feed-piece-requires : tie.Need-feed-piece-requires Inv-loop μ-loop
-feed-piece-requires c κs =
-    let v = c .before .before .loop .inv in
-    let f = c .before .before .before .before .before .before .before .before .pre .1 in (
-      record { sound = v .3 .sound; room = omega (arith, v .3 .fed, f .0 .room, c .feed-piece-arg .given) },
-      omega (arith, f .1, c .feed-piece-arg .given),
-    )
+enum-known-answer-2 : tie.Need-enum-known-answer-2
+enum-known-answer-2 c = search needs
 
-put-answer-requires : tie.Need-put-answer-requires Inv-loop μ-loop
-put-answer-requires c κs = search needs
-
-is-going-requires : tie.Need-is-going-requires Inv-loop μ-loop
-is-going-requires c κs = search needs
-
-next-place-requires : tie.Need-next-place-requires Inv-loop μ-loop
-next-place-requires c κs = search needs
-
-loop-less : tie.Need-loop-less Inv-loop μ-loop
-loop-less c = search needs
-
-loop-again : tie.Need-loop-again Inv-loop μ-loop
-loop-again c =
-    let v = c .before .before .before .before .before .before .before .before .before .before .before .loop .inv in
-    let m = c .before .before .before .before .before .before .before .before .feed-piece .ensures .1 in
-    let n = c .next-place .ensures in (
-      omega (arith, n .2),
-      omega (arith, c .before .before .before .before .put-answer .ensures, c .before .before .before .output .given),
-      omega (arith, v .2, c .before .before .before .output .given),
-      record { sound = m .sound; fed = omega (arith, v .3 .fed, m .fed, m .taken, n .3, c .before .before .before .before .before .before .before .before .before .feed-piece-arg .given, c .before .before .before .before .before .before .before .before .before .before .loop-test .taken) },
-    )
-
-same-length : tie.Need-same-length Inv-loop μ-loop
+same-length : tie.Need-same-length
 same-length c = search needs
 
-returns : tie.Need-returns Inv-loop μ-loop
+returns : tie.Need-returns
 returns c =
-    let v = c .before .loop .inv in
-    (omega (arith, v .1), record { sound = v .3 .sound; fed = omega (arith, v .3 .fed, v .0) })
+    let a = c .before .before .before .before .before .before .before .before .before .before .before .before .args in
+    let p = c .before .before .before .before .before .before .before .before .before .before .before .before .pre in
+    fed-part (a .session) (a .part .now) (a .output .now) (p .0) (p .1) (p .2) (c .before .before .before .before .before .before .before .before .receive-lines .ensures .0)
+
+same-length-2 : tie.Need-same-length-2
+same-length-2 c = search needs
+
+returns-2 : tie.Need-returns-2
+returns-2 c =
+    let a = c .before .before .before .before .before .before .before .before .before .before .args in
+    let p = c .before .before .before .before .before .before .before .before .before .before .pre in
+    fed-part (a .session) (a .part .now) (a .output .now) (p .0) (p .1) (p .2) (c .before .before .before .before .before .before .receive-lines .ensures .0)
 
 pub feed-part-spec : {M : Type 1} → statement M
 feed-part-spec =
     tie.close
     (tie.spec
-    Inv-loop
-    μ-loop
-    loop-holds
-    sub-feed-piece
-    part-feed-piece-start
-    part-feed-piece-end
-    feed-piece-requires
-    put-answer-requires
-    is-going-requires
-    next-place-requires
-    loop-less
-    loop-again
+    receive-lines-requires
+    enum-known-answer
+    slice-reshare-prefix-write-out
+    slice-aggregate-write-out
+    write-out-requires
+    enum-known-answer-2
     same-length
-    returns)
+    returns
+    same-length-2
+    returns-2)

@@ -38,8 +38,8 @@ receive-rest-requires : tie.Need-receive-rest-requires
 receive-rest-requires c κs =
     let m = c .before .before .before .before .before .before .before .feed-bytes .ensures in
     let p = c .before .before .before .before .before .before .before .before .before .before .before .before .before .pre in (
-      (omega (arith, m .0), omega (arith, p .0 .3, c .before .before .before .before .before .before .output .given)),
-      record { sound = m .1 .sound; room = omega (arith, m .1 .fed, p .1 .room, p .0 .0, p .0 .2, c .before .before .before .before .before .before .before .before .before .feed-bytes-arg .given) },
+      record { sound = m .sound; room = omega (arith, m .fed, p .1 .room, p .0 .0, p .0 .2, c .before .before .before .before .before .before .before .before .before .feed-bytes-arg .given) },
+      omega (arith, p .0 .3, c .before .before .before .before .before .before .output .given),
     )
 
 same-length-3 : tie.Need-same-length-3

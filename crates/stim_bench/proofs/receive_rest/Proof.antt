@@ -1,24 +1,23 @@
 -- `stim_bench::receive_rest` meets its contract: each turn takes from the bytes still allowed. Assumes nothing.
-use Prim.Native.Nat.{_≤_}
 use mathlib.Core.Path.{_≡_, sym}
 use native.Mathlib.Omega.{arith}
 use lib.ListN.{length, take}
 use lib.Seq.{length-take-le}
 use borrow.Author.Needs.{needs}
-use Rattle.stim_bench.specs.Bench.{Feedable, FedAtMost}
+use Rattle.stim_bench.specs.Bench.{Feedable}
 use Rattle.stim_bench.proofs.receive_rest.Statement.{statement}
 use Rattle.stim_bench.proofs.receive_rest.Tie as tie
 
 abbrev Inv-loop : tie.InvT-loop
-Inv-loop input₀ output₀ allowed state₀ left₀ input output state left =
-    (state .outlet .used ≤ length output) × (length input ≡ length input₀) × (length output ≡ length output₀) × Feedable (state .session) left
+Inv-loop input₀ output₀ allowed session₀ left₀ input output session left =
+    (length input ≡ length input₀) × (length output ≡ length output₀) × Feedable session left
 
 abbrev μ-loop : tie.MeasureT-loop
-μ-loop input₀ output₀ allowed state₀ left₀ input output state left = left
+μ-loop input₀ output₀ allowed session₀ left₀ input output session left = left
 
 loop-holds : tie.Need-loop-holds Inv-loop μ-loop
 loop-holds c =
-    (omega (arith, c .before .before .pre .0), omega arith, omega arith, c .before .before .pre .1)
+    (omega arith, omega arith, c .before .before .pre .0)
 
 read-some-requires : tie.Need-read-some-requires Inv-loop μ-loop
 read-some-requires c κs = search needs
@@ -54,18 +53,18 @@ slice-aggregate-feed-bytes c = sym (fed-long c)
 feed-bytes-requires : tie.Need-feed-bytes-requires Inv-loop μ-loop
 feed-bytes-requires c κs =
     let v = c .before .before .before .before .before .before .before .before .before .before .loop .inv in (
-      (omega (arith, v .0), omega (arith, v .2, c .before .before .before .before .before .before .before .before .before .before .before .before .before .pre .0)),
-      record { sound = v .3 .sound; room = omega (arith, v .3 .room, fed-long (c .before), c .before .before .fitting .ensures) },
+      record { sound = v .2 .sound; room = omega (arith, v .2 .room, fed-long (c .before), c .before .before .fitting .ensures) },
+      omega (arith, v .1, c .before .before .before .before .before .before .before .before .before .before .before .before .before .pre .1),
     )
 
 has-ended-requires : tie.Need-has-ended-requires Inv-loop μ-loop
 has-ended-requires c κs = search needs
 
 same-length-3 : tie.Need-same-length-3 Inv-loop μ-loop
-same-length-3 c = omega (arith, c .before .before .before .before .before .before .before .before .before .before .before .before .before .input .given, c .before .before .before .before .before .before .before .before .before .before .before .before .before .before .before .before .loop .inv .1)
+same-length-3 c = omega (arith, c .before .before .before .before .before .before .before .before .before .before .before .before .before .input .given, c .before .before .before .before .before .before .before .before .before .before .before .before .before .before .before .before .loop .inv .0)
 
 same-length-4 : tie.Need-same-length-4 Inv-loop μ-loop
-same-length-4 c = omega (arith, c .before .before .before .before .output .given, c .before .before .before .before .before .before .before .before .before .before .before .before .before .before .before .before .loop .inv .2)
+same-length-4 c = omega (arith, c .before .before .before .before .output .given, c .before .before .before .before .before .before .before .before .before .before .before .before .before .before .before .before .loop .inv .1)
 
 returns-2 : tie.Need-returns-2 Inv-loop μ-loop
 returns-2 c = search needs
@@ -74,10 +73,10 @@ print-refusal-requires : tie.Need-print-refusal-requires Inv-loop μ-loop
 print-refusal-requires c κs = search needs
 
 same-length-5 : tie.Need-same-length-5 Inv-loop μ-loop
-same-length-5 c = omega (arith, c .before .before .before .before .before .before .before .before .before .before .before .before .before .before .before .input .given, c .before .before .before .before .before .before .before .before .before .before .before .before .before .before .before .before .before .before .loop .inv .1)
+same-length-5 c = omega (arith, c .before .before .before .before .before .before .before .before .before .before .before .before .before .before .before .input .given, c .before .before .before .before .before .before .before .before .before .before .before .before .before .before .before .before .before .before .loop .inv .0)
 
 same-length-6 : tie.Need-same-length-6 Inv-loop μ-loop
-same-length-6 c = omega (arith, c .before .before .before .before .before .before .output .given, c .before .before .before .before .before .before .before .before .before .before .before .before .before .before .before .before .before .before .loop .inv .2)
+same-length-6 c = omega (arith, c .before .before .before .before .before .before .output .given, c .before .before .before .before .before .before .before .before .before .before .before .before .before .before .before .before .before .before .loop .inv .1)
 
 returns-3 : tie.Need-returns-3 Inv-loop μ-loop
 returns-3 c = search needs
@@ -96,10 +95,9 @@ loop-again : tie.Need-loop-again Inv-loop μ-loop
 loop-again c =
     let v = c .before .before .before .before .before .before .before .before .before .before .before .before .before .before .before .before .before .loop .inv in
     let m = c .before .before .before .before .before .before .feed-bytes .ensures in (
-      omega (arith, m .0),
-      omega (arith, v .1, c .before .before .before .before .before .before .before .before .before .before .before .before .before .before .input .given),
-      omega (arith, v .2, c .before .before .before .before .before .output .given),
-      record { sound = m .1 .sound; room = omega (arith, v .3 .room, m .1 .fed, fed-long (c .before .before .before .before .before .before .before .before), c .before .before .before .before .before .before .before .before .before .fitting .ensures, c .if2 .left) },
+      omega (arith, v .0, c .before .before .before .before .before .before .before .before .before .before .before .before .before .before .input .given),
+      omega (arith, v .1, c .before .before .before .before .before .output .given),
+      record { sound = m .sound; room = omega (arith, v .2 .room, m .fed, fed-long (c .before .before .before .before .before .before .before .before), c .before .before .before .before .before .before .before .before .before .fitting .ensures, c .if2 .left) },
     )
 
 pub receive-rest-spec : {M : Type 1} → statement M

@@ -1,0 +1,238 @@
+-- Going through a piece: what each datagram leaves, and what there is at the end. Assumes nothing.
+use Prim.Native.Nat.{ℕ, _+_, _-_, _*_, _^_, _≤_, _<_}
+use mathlib.Core.Path.{_≡_, refl, sym, ap, _∙_, subst}
+use mathlib.Core.Bool.{true}
+use mathlib.Core.List.{List, [], _++_}
+use native.Mathlib.Nat.{add-zero, mul-add, mul-one, mul-le-mul-right}
+use native.Mathlib.Omega.{arith}
+use lib.ListN.{length, take, drop, length-append, length-drop, drop-of-length-le}
+use lib.Seq.{sets, length-sets, length-take-le, drop-drop}
+use Rattle.setup.specs.Setup.{judged, lengthOf}
+use Rattle.setup.specs.declared.Setup.{Setup}
+use Rattle.setup.specs.declared.Judgement.the-variants.{Accepted}
+use Rattle.setup.proofs.Refusals.{accepted-length}
+use Rattle.motion.specs.Gaps.{datagrams}
+use Rattle.scan.specs.Scan.{Scanned, holding, passing, handing, first, scan, Stable}
+use Rattle.scan.specs.Carry.{steps, carriedAfter}
+use Rattle.scan.proofs.ScanLaws.{scan-first, unrolled}
+use Rattle.scan.proofs.AmongLaws.{follows-stable}
+use Rattle.search.specs.Search.{isDatagram, verdictOf}
+use Rattle.search.proofs.Datagrams.{lawful}
+use Rattle.search.proofs.Places.{to-end, IsWhole, IsOpen}
+use Rattle.session.specs.declared.Session.{Session}
+use Rattle.session.proofs.Soundness.{sound-facts}
+use Rattle.receiver.specs.Feed.{keptNext, consumer, padded}
+use Rattle.lines.specs.declared.Received.the-variants.{Lines}
+use Rattle.lines.specs.declared.Progress.{Progress}
+use Rattle.lines.specs.Steps.{startOf, keptIn, nextLine, textOf, nextOf, stopped, batchBy, Ready, scanAt, Through, Made, Let}
+use Rattle.lines.proofs.NextLines.{right-next, line-short, text-none, text-more}
+use Rattle.lines.proofs.Placing.{sets-append}
+
+pub stable-of : (u : Setup) → judged u ≡ Accepted → Stable (verdictOf u)
+stable-of u a = follows-stable (verdictOf u) (isDatagram u) (lawful u a .follows)
+
+-- ---- the scan by what find tells
+
+pub scan-whole :
+    (u : Setup) → judged u ≡ Accepted → (v : List ℕ) (n : ℕ) → IsWhole u v n
+    → scan (verdictOf u) v ≡ passing n (handing (take (lengthOf u) (drop n v)) (scan (verdictOf u) (drop (n + lengthOf u) v)))
+scan-whole u a v n w = scan-first (verdictOf u) (stable-of u a) v ∙ ap (unrolled (verdictOf u)) (w .scan)
+
+pub scan-open :
+    (u : Setup) → judged u ≡ Accepted → (v : List ℕ) (n : ℕ) → IsOpen u v n → scan (verdictOf u) v ≡ passing n (holding (drop n v))
+scan-open u a v n w = scan-first (verdictOf u) (stable-of u a) v ∙ ap (unrolled (verdictOf u)) (w .scan)
+
+-- ---- counts that stay in range
+
+-- few datagrams: 18 bytes each, of at most 2 ^ 34
+pub few-of : (u : Setup) → judged u ≡ Accepted → (n rest : ℕ) → lengthOf u * n + rest ≤ 2 ^ 34 → n < 2 ^ 30
+few-of u a n rest h = omega (arith, mul-le-mul-right n (accepted-length u a .0))
+
+-- room for fewer bytes
+pub ready-less : (u : Setup) (x : Progress) (end less room : ℕ) → x .at ≤ less → less ≤ end → Ready u x end room → Ready u x less room
+ready-less u x end less room a l R =
+    record {
+      accepted = R .accepted;
+      within = a;
+      most = omega (arith, R .most);
+      axes = R .axes;
+      few = omega (arith, R .few);
+      passed = omega (arith, R .passed);
+      roomy = omega (arith, R .roomy);
+    }
+
+module _ (u : Setup) (x : Progress) (end room : ℕ) (R : Ready u x end room) (n : ℕ) (d : List ℕ) (good : isDatagram u d ≡ true) where
+  -- behind a datagram all is ready again
+  pub ready-next : length d ≡ lengthOf u → x .at + (n + lengthOf u) ≤ end → Ready u (nextOf u x n d) end room
+  unfolding nextOf keptNext
+  ready-next long fits =
+      let k = keptIn x in
+      let L = accepted-length u (R .accepted) in
+      let few = few-of u (R .accepted) (x .datagrams) (end - x .at) (R .few) in
+      let short = line-short u k d (R .axes) good (omega arith) in
+      record {
+        accepted = R .accepted;
+        within = omega (arith, long, fits);
+        most = R .most;
+        axes = right-next u k d (R .axes) good;
+        few = omega (arith, R .few, mul-add (lengthOf u) (x .datagrams) 1, mul-one (lengthOf u), long, fits);
+        passed = omega (arith, R .passed, long, fits);
+        roomy = omega (arith, R .roomy, short, long, fits, L .0);
+      }
+
+module _ (u : Setup) (start : Progress) (p b₀ : List ℕ) where
+  -- at x, with the buffer b: what is left gives what the whole gives
+  pub record Going (x : Progress) (b : List ℕ) : Type 0 where
+    pub ready : Ready u x (length p) (length b)
+    pub same : length b ≡ length b₀
+    pub kept :
+        carriedAfter (consumer u) (keptIn x) (scanAt u p (x .at) .datagrams)
+        ≡ carriedAfter (consumer u) (keptIn start) (scanAt u p (start .at) .datagrams)
+    pub passed : x .passed + scanAt u p (x .at) .passed ≡ start .passed + scanAt u p (start .at) .passed
+    pub used : x .used + length (textOf u (keptIn x) (scanAt u p (x .at))) ≡ start .used + length (textOf u (keptIn start) (scanAt u p (start .at)))
+    pub text : sets b (x .used) (textOf u (keptIn x) (scanAt u p (x .at))) ≡ sets b₀ (start .used) (textOf u (keptIn start) (scanAt u p (start .at)))
+    pub held : scanAt u p (x .at) .held ≡ scanAt u p (start .at) .held
+
+  pub going-start : Ready u start (length p) (length b₀) → Going start b₀
+  going-start R = record { ready = R; same = refl; kept = refl; passed = refl; used = refl; text = refl; held = refl }
+
+  module _ (x : Progress) (b : List ℕ) (G : Going x b) (n : ℕ) where
+    -- a datagram, and its line
+    module _ (w : IsWhole u (drop (x .at) p) n) where
+      abbrev it : List ℕ
+      it = take (lengthOf u) (drop n (drop (x .at) p))
+
+      pub whole-within : x .at + (n + lengthOf u) ≤ length p
+      whole-within = omega (arith, w .within, length-drop (x .at) p, G .ready .within)
+
+      pub whole-long : length it ≡ lengthOf u
+      whole-long = length-take-le (lengthOf u) (drop n (drop (x .at) p)) (omega (arith, w .within, length-drop n (drop (x .at) p)))
+
+      next-place : drop (n + lengthOf u) (drop (x .at) p) ≡ drop (x .at + (n + length it)) p
+      next-place = drop-drop (n + lengthOf u) (x .at) p ∙ ap (λ (m : ℕ). drop (x .at + (n + m)) p) (sym whole-long)
+
+      abbrev then-on : Scanned
+      then-on = scanAt u p (x .at + (n + length it))
+
+      scanned : scanAt u p (x .at) ≡ passing n (handing it then-on)
+      scanned =
+          scan-whole u (G .ready .accepted) (drop (x .at) p) n w
+          ∙ ap (λ (l : List ℕ). passing n (handing it (scan (verdictOf u) l))) next-place
+
+      lined : textOf u (keptIn x) (scanAt u p (x .at)) ≡ nextLine u (keptIn x) it ++ textOf u (steps (consumer u) (keptIn x) it) then-on
+      lined = ap (textOf u (keptIn x)) scanned ∙ text-more u (keptIn x) n it then-on
+
+      pub going-next : Going (nextOf u x n it) (sets b (x .used) (nextLine u (keptIn x) it))
+      unfolding nextOf carriedAfter
+      going-next =
+          let k = keptIn x in
+          let line = nextLine u k it in
+          let text = textOf u (steps (consumer u) k it) then-on in
+          record {
+            ready =
+                subst (λ (room : ℕ). Ready u (nextOf u x n it) (length p) room) (sym (length-sets b (x .used) line))
+                (ready-next u x (length p) (length b) (G .ready) n it (w .good) whole-long whole-within);
+            same = length-sets b (x .used) line ∙ G .same;
+            kept = sym (ap (λ (g : Scanned). carriedAfter (consumer u) k (g .datagrams)) scanned) ∙ G .kept;
+            passed = omega (arith, G .passed, ap (λ (g : Scanned). g .passed) scanned);
+            used = omega (arith, G .used, ap length lined, length-append line text);
+            text = sym (sets-append b (x .used) line text) ∙ ap (sets b (x .used)) (sym lined) ∙ G .text;
+            held = sym (ap (λ (g : Scanned). g .held) scanned) ∙ G .held;
+          }
+
+    -- no more datagram
+    module _ (w : IsOpen u (drop (x .at) p) n) where
+      pub open-within : x .at + n ≤ length p
+      open-within = omega (arith, w .within, length-drop (x .at) p, G .ready .within)
+
+      opened : scanAt u p (x .at) ≡ passing n (holding (drop n (drop (x .at) p)))
+      opened = scan-open u (G .ready .accepted) (drop (x .at) p) n w
+
+      unlined : textOf u (keptIn x) (scanAt u p (x .at)) ≡ []
+      unlined = ap (textOf u (keptIn x)) opened ∙ text-none u (keptIn x) n (drop n (drop (x .at) p))
+
+      pub going-stop : Through u start p b₀ b (stopped x n)
+      unfolding carriedAfter
+      going-stop =
+          record {
+            kept = sym (ap (λ (g : Scanned). carriedAfter (consumer u) (keptIn x) (g .datagrams)) opened) ∙ G .kept;
+            passed = omega (arith, G .passed, ap (λ (g : Scanned). g .passed) opened);
+            used = omega (arith, G .used, ap length unlined);
+            text = sym (ap (sets b (x .used)) unlined) ∙ G .text;
+            held = sym (drop-drop n (x .at) p) ∙ sym (ap (λ (g : Scanned). g .held) opened) ∙ G .held;
+            within = open-within;
+            short = omega (arith, w .short, length-drop (x .at) p, open-within);
+            fits = omega (arith, G .ready .roomy, G .same);
+          }
+
+  -- no more bytes
+  pub going-all : (x : Progress) (b : List ℕ) → Going x b → length p ≤ x .at → Through u start p b₀ b x
+  unfolding first
+  going-all x b G h =
+      let none : drop (x .at) p ≡ [] = drop-of-length-le p {i = x .at} h in
+      let w : IsOpen u (drop (x .at) p) 0 =
+      subst (λ (l : List ℕ). IsOpen u l 0) (sym none)
+      (record { scan = refl; within = omega arith; short = omega (arith, accepted-length u (G .ready .accepted) .0) }) in
+      let same : stopped x 0 ≡ x =
+      λ i. record { datagrams = x .datagrams; passed = add-zero (x .passed) i; previous = x .previous; axes = x .axes; at = add-zero (x .at) i; used = x .used } in
+      subst (Through u start p b₀ b) same (going-stop x b G 0 w)
+
+-- ---- the answer behind a piece that was gone through
+
+-- a session may go through a piece from a place on
+pub ready-start :
+    (s : Session) (p : List ℕ) (room : ℕ) → Let s (length p) room → Ready (s .setup) (startOf s 0 0) (length p) room
+ready-start s p room a =
+    let F = sound-facts s (a .sound) in
+    record {
+      accepted = F .accepted;
+      within = omega arith;
+      most = a .piece;
+      axes = F .axes;
+      few = omega (arith, F .sum, a .session);
+      passed = omega (arith, F .sum, a .session);
+      roomy = omega (arith, a .piece, a .enough);
+    }
+
+pub made-through :
+    (s : Session) (at used : ℕ) (p b b′ held : List ℕ) (r : Progress) → Through (s .setup) (startOf s at used) p b b′ r
+    → held ≡ padded 64 (take (length p - r .at) (drop (r .at) p))
+    → Made s used (scanAt (s .setup) p at) (length p - at) b b′
+    (record {
+      answer = Lines (r .used);
+      session =
+          record {
+            setup = s .setup;
+            held = held;
+            count = length p - r .at;
+            datagrams = datagrams (r .datagrams);
+            passed = r .passed;
+            fed = s .fed + (length p - at);
+            previous = r .previous;
+            axes = r .axes;
+          };
+    })
+unfolding batchBy
+made-through s at used p b b′ held r T e =
+    let h : held ≡ padded 64 (scanAt (s .setup) p at .held) = e ∙ ap (padded 64) (to-end p (r .at) ∙ T .held) in
+    let n : length p - r .at ≡ length (scanAt (s .setup) p at .held) = sym (length-drop (r .at) p) ∙ ap length (T .held) in
+    record {
+      batch =
+          λ i.
+          record {
+            answer = Lines (T .used i);
+            session =
+                record {
+                  setup = s .setup;
+                  held = h i;
+                  count = n i;
+                  datagrams = datagrams (T .kept i .datagrams);
+                  passed = T .passed i;
+                  fed = s .fed + (length p - at);
+                  previous = T .kept i .previous;
+                  axes = T .kept i .axes;
+                };
+          };
+      text = T .text;
+      fits = omega (arith, T .used, T .fits);
+    }

@@ -1,0 +1,248 @@
+-- A piece behind bytes that are held: the call that completes the first datagram, and what is left of the piece. Assumes nothing.
+use Prim.Native.Nat.{ℕ, suc, _+_, _-_, _^_, _≤_}
+use mathlib.Core.Path.{_≡_, refl, sym, ap, _∙_, subst}
+use mathlib.Core.Bool.{false}
+use mathlib.Core.List.{List, [], _∷_, _++_}
+use native.Mathlib.Nat.{mul-add, mul-one}
+use native.Mathlib.Numerals.{add-one}
+use native.Mathlib.Omega.{arith}
+use lib.ListN.{length, take, drop, length-append, length-drop}
+use lib.Seq.{sets, drop-append-add}
+use Rattle.setup.specs.Setup.{lengthOf}
+use Rattle.setup.specs.declared.Setup.{Setup}
+use Rattle.setup.proofs.Refusals.{accepted-length}
+use Rattle.wire.specs.Fields.{fieldsOf}
+use Rattle.motion.specs.Gaps.{datagrams}
+use Rattle.motion.specs.Totals.{totalsOf}
+use Rattle.text.specs.TextLine.{outside}
+use Rattle.scan.specs.Scan.{Scanned, First, ends, finds, first, passing, handing, holding, scan}
+use Rattle.scan.specs.Carry.{steps, carriedAfter}
+use Rattle.search.specs.Search.{verdictOf, placeOf}
+use Rattle.search.proofs.Places.{IsWhole, found-whole, found-open}
+use Rattle.session.specs.Session.{heldBytes}
+use Rattle.session.specs.declared.Session.{Session}
+use Rattle.session.proofs.Soundness.{Facts, sound-facts}
+use Rattle.receiver.specs.Feed.{Kept, keptNext, tell, datagramWith, consumer, meaning, feedOf, padded}
+use Rattle.receiver.specs.Turns.{turnOf, turnAtOnce}
+use Rattle.receiver.specs.declared.Answer.the-variants.{Datagram as HandedOut, Waiting}
+use Rattle.receiver.specs.declared.Reply.{Reply}
+use Rattle.receiver.proofs.Meanings.{count-held}
+use Rattle.receiver.proofs.Turns.{fed-at-once, count-less}
+use Rattle.lines.specs.declared.Received.the-variants.{Lines}
+use Rattle.lines.specs.declared.Batch.{Batch}
+use Rattle.lines.specs.Lines.{lineOf, foundIn}
+use Rattle.lines.specs.Steps.{startOf, nextLine, textOf, batchBy, Ready, scanAt, Made, Let}
+use Rattle.lines.proofs.NextLines.{axesNext, right-next, line-inside, line-short, text-none, text-more}
+use Rattle.lines.proofs.Placing.{sets-append}
+use Rattle.lines.proofs.Going.{scan-whole, scan-open, few-of}
+
+module _ (s : Session) (p : List ℕ) (room : ℕ) (a : Let s (length p) room) where
+  abbrev setup : Setup
+  setup = s .setup
+
+  -- the bytes held and the piece
+  abbrev joint : List ℕ
+  joint = heldBytes s ++ p
+
+  abbrev kept : Kept
+  kept = meaning s .carried
+
+  facts : Facts s
+  facts = sound-facts s (a .sound)
+
+  held-count : length (heldBytes s) ≡ s .count
+  held-count = count-held s facts
+
+  turned : (f : First) → first (verdictOf setup) joint ≡ f → feedOf s p ≡ turnAtOnce s p f
+  turned f q = fed-at-once s p (a .sound) (a .piece) (a .session) ∙ ap (turnAtOnce s p) q
+
+  -- ---- a datagram came back
+
+  pub record Handed : Type 0 where
+    pub place : ℕ
+    pub whole : IsWhole setup joint place
+    pub reply : feedOf s p ≡ turnOf s (place + lengthOf setup - s .count) (finds place (take (lengthOf setup) (drop place joint)) [])
+
+  pub handed : feedOf s p .answer ≡ HandedOut → Handed
+  unfolding turnOf
+  handed e = by (first (verdictOf setup) joint) refl
+    where
+      by : (f : First) → first (verdictOf setup) joint ≡ f → Handed
+      by (ends n l) q =
+          let w : feedOf s p .answer ≡ Waiting = ap (λ (r : Reply). r .answer) (turned (ends n l) q) in
+          absurd (let z : _≡_ {A = ℕ} 0 1 = cc in omega arith)
+      by (finds n d r) q =
+          let w = found-whole setup (facts .accepted) joint n (ap placeOf q) in
+          let L = lengthOf setup in
+          let k : length p - length (drop (n + L) joint) ≡ n + L - s .count =
+          omega (arith, length-drop (n + L) joint, length-append (heldBytes s) p, held-count, w .within, count-less s facts)
+          in
+          record {
+            place = n;
+            whole = w;
+            reply =
+                turned (finds n (take L (drop n joint)) (drop (n + L) joint)) (w .scan)
+                ∙ ap (λ (m : ℕ). turnOf s m (finds n (take L (drop n joint)) [])) k;
+          }
+
+  module _ (H : Handed) where
+    abbrev pub datagram : List ℕ
+    datagram = take (lengthOf setup) (drop (H .place) joint)
+
+    abbrev taken : ℕ
+    taken = H .place + lengthOf setup - s .count
+
+    abbrev pub turn : Reply
+    turn = turnOf s taken (finds (H .place) datagram [])
+
+    abbrev line : List ℕ
+    line = nextLine setup kept datagram
+
+    few : suc (s .datagrams .0) ≤ 2 ^ 30
+    few = few-of setup (facts .accepted) (s .datagrams .0) (s .passed + s .count) (omega (arith, facts .sum, facts .most))
+
+    taken-within : taken ≤ length p
+    taken-within = omega (arith, H .whole .within, length-append (heldBytes s) p, held-count)
+
+    rest : drop (H .place + lengthOf setup) joint ≡ drop taken p
+    rest =
+        let e : H .place + lengthOf setup ≡ length (heldBytes s) + taken = omega (arith, held-count, count-less s facts) in
+        ap (λ (n : ℕ). drop n joint) e ∙ drop-append-add (heldBytes s) p taken
+
+    scanned : foundIn s p ≡ passing (H .place) (handing datagram (scanAt setup p taken))
+    scanned =
+        scan-whole setup (facts .accepted) joint (H .place) (H .whole)
+        ∙ ap (λ (v : List ℕ). passing (H .place) (handing datagram (scan (verdictOf setup) v))) rest
+
+    short : length line ≤ 307
+    short = line-short setup kept datagram (facts .axes) (H .whole .good) few
+
+    -- its line is the next one, and nothing refuses it
+    pub first-line : lineOf setup (turn .session .datagrams .0) (turn .datagram) ≡ line
+    unfolding turnOf keptNext nextLine
+    first-line = rw (add-one (s .datagrams .0))
+
+    pub first-inside :
+        outside (turn .session .datagrams .0) (turn .datagram .gyro ∷ turn .datagram .accelerometer ∷ turn .datagram .inclinometer ∷ []) (turn .datagram .totals) ≡ false
+    unfolding turnOf keptNext tell datagramWith fieldsOf
+    first-inside =
+        ap (λ (n : ℕ). outside n (fieldsOf (setup .identifier) datagram .readings) (totalsOf (axesNext setup kept datagram))) (add-one (s .datagrams .0))
+        ∙ line-inside setup kept datagram (facts .axes) (H .whole .good) few
+
+    pub first-short : length (lineOf setup (turn .session .datagrams .0) (turn .datagram)) ≤ 307
+    first-short = subst (λ (t : List ℕ). length t ≤ 307) (sym first-line) short
+
+    -- the piece can be gone through behind it
+    pub first-ready :
+        (used width : ℕ) → used ≤ 307 → 72000 ≤ width
+        → Ready (turn .session .setup) (startOf (turn .session) (turn .taken) used) (length p) width
+    unfolding turnOf keptNext
+    first-ready used width l w =
+        record {
+          accepted = facts .accepted;
+          within = taken-within;
+          most = a .piece;
+          axes = right-next setup kept datagram (facts .axes) (H .whole .good);
+          few =
+              omega (
+                arith,
+                facts .sum,
+                a .session,
+                mul-add (lengthOf setup) (s .datagrams .0) 1,
+                mul-one (lengthOf setup),
+                taken-within,
+                count-less s facts,
+              );
+          passed = omega (arith, facts .sum, facts .most, H .whole .within, length-append (heldBytes s) p, held-count, count-less s facts, accepted-length setup (facts .accepted) .1, a .piece);
+          roomy = omega (arith, a .piece);
+        }
+
+    pub first-fed : turn .session .fed + (length p - turn .taken) ≤ 2 ^ 34
+    unfolding turnOf
+    first-fed = omega (arith, a .session, taken-within)
+
+    -- what is made of the rest is made of the whole
+    pub first-made :
+        (b b′ b″ : List ℕ) (used : ℕ) (r : Batch) → used ≡ 0 + length line → b′ ≡ sets b 0 line → length b′ ≡ length b
+        → Made (turn .session) used (scanAt (turn .session .setup) p (turn .taken)) (length p - turn .taken) b′ b″ r
+        → Made s 0 (foundIn s p) (length p) b b″ r
+    unfolding turnOf batchBy carriedAfter
+    first-made b b′ b″ used r e f l M =
+        let g = scanAt setup p taken in
+        let found = passing (H .place) (handing datagram g) in
+        let x = steps (consumer setup) kept datagram in
+        let t = textOf setup x g in
+        let k = carriedAfter (consumer setup) x (g .datagrams) in
+        let text : textOf setup kept found ≡ line ++ t = text-more setup kept (H .place) datagram g in
+        let n : used + length t ≡ 0 + length (textOf setup kept found) = omega (arith, e, ap length text, length-append line t) in
+        let passed : s .passed + H .place + g .passed ≡ s .passed + (H .place + g .passed) = omega arith in
+        let fed : s .fed + taken + (length p - taken) ≡ s .fed + length p = omega (arith, taken-within) in
+        let same : batchBy (turn .session) used g (length p - taken) ≡ batchBy s 0 found (length p) =
+        λ i.
+        record {
+          answer = Lines (n i);
+          session =
+              record {
+                setup = setup;
+                held = padded 64 (g .held);
+                count = length (g .held);
+                datagrams = datagrams (k .datagrams);
+                passed = passed i;
+                fed = fed i;
+                previous = k .previous;
+                axes = k .axes;
+              };
+        }
+        in
+        subst (λ (g : Scanned). Made s 0 g (length p) b b″ r) (sym scanned)
+        (record {
+          batch = M .batch ∙ same;
+          text =
+              M .text
+              ∙ ap (λ (v : List ℕ). sets v used t) f
+              ∙ ap (λ (m : ℕ). sets (sets b 0 line) m t) e
+              ∙ sym (sets-append b 0 line t)
+              ∙ ap (sets b 0) (sym text);
+          fits = omega (arith, M .fits, l, n);
+        })
+
+  -- ---- the piece ended
+
+  pub waited-made : feedOf s p .answer ≡ Waiting → (b : List ℕ) → Made s 0 (foundIn s p) (length p) b b (record { answer = Lines 0; session = feedOf s p .session })
+  unfolding turnOf batchBy carriedAfter
+  waited-made e b = by (first (verdictOf setup) joint) refl
+    where
+      by : (f : First) → first (verdictOf setup) joint ≡ f → Made s 0 (foundIn s p) (length p) b b (record { answer = Lines 0; session = feedOf s p .session })
+      by (finds n d r) q =
+          let w : feedOf s p .answer ≡ HandedOut = ap (λ (r : Reply). r .answer) (turned (finds n d r) q) in
+          absurd (let z : _≡_ {A = ℕ} 0 1 = cc in omega arith)
+      by (ends n l) q =
+          let w = found-open setup (facts .accepted) joint n (ap placeOf q) in
+          let h = drop n joint in
+          let none : textOf setup kept (passing n (holding h)) ≡ [] = text-none setup kept n h in
+          let zero : 0 ≡ 0 + length (textOf setup kept (passing n (holding h))) = omega (arith, ap length none) in
+          let passed : s .passed + n ≡ s .passed + (n + 0) = omega arith in
+          let same : record { answer = Lines 0; session = turnOf s (length p) (ends n h) .session } ≡ batchBy s 0 (passing n (holding h)) (length p) =
+          λ i.
+          record {
+            answer = Lines (zero i);
+            session =
+                record {
+                  setup = setup;
+                  held = padded 64 h;
+                  count = length h;
+                  datagrams = s .datagrams;
+                  passed = passed i;
+                  fed = s .fed + length p;
+                  previous = s .previous;
+                  axes = s .axes;
+                };
+          }
+          in
+          subst (λ (g : Scanned). Made s 0 g (length p) b b (record { answer = Lines 0; session = feedOf s p .session }))
+          (sym (scan-open setup (facts .accepted) joint n w))
+          (record {
+            batch = ap (λ (r : Reply). record { answer = Lines 0; session = r .session }) (turned (ends n h) (w .scan)) ∙ same;
+            text = ap (sets b 0) (sym none);
+            fits = omega (arith, ap length none);
+          })

@@ -1,0 +1,137 @@
+-- The line of the next datagram: 13 doesn't refuse it, and it is at most 307 bytes long. Assumes nothing.
+use Prim.Native.Nat.{ℕ, suc, _-_, _/_, _%_, _^_, _≤_, _<_}
+use mathlib.Core.Path.{_≡_, refl, sym, ap, subst}
+use mathlib.Core.Bool.{Bool, true, false, cond, _&&_, _||_}
+use mathlib.Core.List.{List, [], _++_}
+use native.Mathlib.Nat.{div-le-self}
+use native.Mathlib.Numerals.{add-one}
+use native.Mathlib.Omega.{arith}
+use lib.Dec.{eqb, eqb·suc-zero}
+use lib.IntN.{ℤ, pos}
+use lib.ListN.{length, getD}
+use Rattle.integers.specs.Ranges.{within}
+use Rattle.integers.proofs.Folding.{InRange}
+use Rattle.integers.proofs.Ranges.{le-within, range-inReading}
+use Rattle.setup.specs.declared.Setup.{Setup}
+use Rattle.wire.specs.Fields.{Contents, fieldsOf}
+use Rattle.wire.proofs.FieldRanges.{Fitting, fields-fit}
+use Rattle.motion.specs.Gaps.{datagrams, stepAt, elapsed, missedAfter, gapAt, gapBetween, knownRate}
+use Rattle.motion.specs.Totals.{axisAt, totalsOf}
+use Rattle.motion.specs.declared.Axes.{Axes}
+use Rattle.motion.specs.declared.Gap.{Gap}
+use Rattle.motion.specs.declared.Gap.the-variants.{Missed, OffStep}
+use Rattle.motion.proofs.Gaps.{elapsed-range}
+use Rattle.text.specs.TextLine.{lineText, rowFits, readingsFit, totalsWithin, outside}
+use Rattle.text.proofs.Longest.{MissedFits, longest}
+use Rattle.scan.specs.Scan.{Scanned, passing, handing, holding}
+use Rattle.scan.specs.Carry.{steps, told}
+use Rattle.scan.proofs.CallsLaws.{and-true}
+use Rattle.search.specs.Search.{isDatagram}
+use Rattle.search.proofs.ByteLists.{datagram-parts}
+use Rattle.session.specs.Session.{axesRight}
+use Rattle.session.proofs.AxisLaws.{axes-at, axes-step}
+use Rattle.receiver.specs.Feed.{Kept, axesAfter, awaitsFirst, keptNext, tell, datagramWith, consumer}
+use Rattle.lines.specs.Lines.{linesAfter}
+use Rattle.lines.specs.Steps.{nextLine, textOf}
+
+-- ---- a gap is a number of at most 256, or none
+
+gap-fits : (rate : ℕ) (first : Bool) (previous counter : ℕ) → MissedFits (gapAt rate first previous counter)
+unfolding gapAt missedAfter
+gap-fits rate first previous counter = by (first || eqb rate 0)
+  where
+    counted : (t : Bool) → MissedFits (cond t (Missed (datagrams (elapsed previous counter .0 / stepAt rate .0 - 1))) OffStep)
+    counted true = omega (arith, elapsed-range previous counter .1, div-le-self (elapsed previous counter .0) (stepAt rate .0))
+    counted false = tt
+
+    by : (t : Bool) → MissedFits (cond t (Missed (datagrams 0)) (missedAfter (stepAt rate) (elapsed previous counter)))
+    by true = omega arith
+    by false = counted (eqb (elapsed previous counter .0 % stepAt rate .0) 0)
+
+-- ---- readings of bytes are in 24 bits, and totals of few datagrams are small
+
+all-three : {a b c : Bool} → a ≡ true → b ≡ true → c ≡ true → (a && b && c) ≡ true
+all-three p q r = and-true (and-true p q) r
+
+row-fits : (row : List ℤ) → ((k : ℕ) → InRange (getD row k (pos 0))) → rowFits row ≡ true
+row-fits row h =
+    all-three (range-inReading (getD row 0 (pos 0)) (h 0)) (range-inReading (getD row 1 (pos 0)) (h 1)) (range-inReading (getD row 2 (pos 0)) (h 2))
+
+readings-fit : (readings : List (List ℤ)) → ((g k : ℕ) → InRange (getD (getD readings g []) k (pos 0))) → readingsFit readings ≡ true
+unfolding readingsFit
+readings-fit readings h =
+    all-three (row-fits (getD readings 0 []) (h 0)) (row-fits (getD readings 1 []) (h 1)) (row-fits (getD readings 2 []) (h 2))
+
+totals-small : (u : Setup) (n : ℕ) (a : Axes) → axesRight u n a ≡ true → n ≤ 2 ^ 30 → totalsWithin (totalsOf a) ≡ true
+unfolding totalsWithin totalsOf
+totals-small u n a e h =
+    let small : (g k : ℕ) → g < 3 → k < 3 → within (2 ^ 53) (axisAt a g k .total) ≡ true =
+    λ g k i j. le-within (2 ^ 53) (axisAt a g k .total) (omega (arith, axes-at u n a e g k i j .total))
+    in
+    all-three
+    (all-three (small 0 0 (omega arith) (omega arith)) (small 0 1 (omega arith) (omega arith)) (small 0 2 (omega arith) (omega arith)))
+    (all-three (small 1 0 (omega arith) (omega arith)) (small 1 1 (omega arith) (omega arith)) (small 1 2 (omega arith) (omega arith)))
+    (all-three (small 2 0 (omega arith) (omega arith)) (small 2 1 (omega arith) (omega arith)) (small 2 2 (omega arith) (omega arith)))
+
+-- ---- the line
+
+module _ (u : Setup) (x : Kept) (d : List ℕ) where
+  abbrev inside-it : Contents
+  inside-it = fieldsOf (u .identifier) d
+
+  abbrev pub gapNext : Gap
+  gapNext = gapBetween u (awaitsFirst x) (x .previous) (inside-it .counter)
+
+  abbrev pub axesNext : Axes
+  axesNext = axesAfter u (x .axes) inside-it
+
+  -- the next line, by the fields of the datagram
+  pub next-line :
+      nextLine u x d
+      ≡ lineText u (suc (x .datagrams)) (inside-it .counter) (inside-it .latency) gapNext (inside-it .readings) (inside-it .statuses) (totalsOf axesNext)
+  unfolding nextLine tell datagramWith fieldsOf
+  next-line = refl
+
+  module _ (right : axesRight u (x .datagrams) (x .axes) ≡ true) (good : isDatagram u d ≡ true) where
+    fits : Fitting inside-it
+    fits = fields-fit (u .identifier) d (datagram-parts u d good .0)
+
+    axes-next : axesRight u (suc (x .datagrams)) axesNext ≡ true
+    axes-next = axes-step u (x .datagrams) (x .axes) (inside-it .readings) (inside-it .statuses) (fits .readings) right
+
+    -- the axes are right behind it
+    pub right-next : axesRight u (steps (consumer u) x d .datagrams) (steps (consumer u) x d .axes) ≡ true
+    unfolding keptNext
+    right-next = subst (λ (k : ℕ). axesRight u k axesNext ≡ true) (sym (add-one (x .datagrams))) axes-next
+
+    module _ (few : suc (x .datagrams) ≤ 2 ^ 30) where
+      -- 13 doesn't refuse it
+      pub line-inside : outside (suc (x .datagrams)) (inside-it .readings) (totalsOf axesNext) ≡ false
+      unfolding outside
+      line-inside =
+          rw (
+            readings-fit (inside-it .readings) (fits .readings),
+            totals-small u (suc (x .datagrams)) axesNext axes-next few,
+            eqb·suc-zero (x .datagrams),
+          )
+
+      -- and it is short
+      pub line-short : length (nextLine u x d) ≤ 307
+      line-short =
+          subst (λ (t : List ℕ). length t ≤ 307) (sym next-line)
+          (longest u (suc (x .datagrams)) (inside-it .counter) (inside-it .latency) gapNext (inside-it .readings) (inside-it .statuses) (totalsOf axesNext)
+          (omega arith) (fits .counter) (fits .latency) (gap-fits (knownRate (u .rate)) (awaitsFirst x) (x .previous) (inside-it .counter)) (fits .statuses)
+          (readings-fit (inside-it .readings) (fits .readings)) (totals-small u (suc (x .datagrams)) axesNext axes-next few))
+
+-- ---- the lines of what a scan gives
+
+-- none where it finds no datagram
+pub text-none : (u : Setup) (k : Kept) (n : ℕ) (h : List ℕ) → textOf u k (passing n (holding h)) ≡ []
+unfolding textOf told linesAfter
+text-none u k n h = refl
+
+-- the line of its first, and those of the others
+pub text-more : (u : Setup) (k : Kept) (n : ℕ) (d : List ℕ) (g : Scanned) → textOf u k (passing n (handing d g)) ≡ nextLine u k d ++ textOf u (steps (consumer u) k d) g
+unfolding textOf nextLine told linesAfter keptNext
+text-more u k n d g =
+    ap (λ (m : ℕ). nextLine u k d ++ linesAfter u m (told (consumer u) (steps (consumer u) k d) (g .datagrams))) (sym (add-one (k .datagrams)))

@@ -1,0 +1,79 @@
+-- The lines of a piece are those of the datagrams that calls of feed hand out, one after the other, and its session is the one that these leave.
+-- Assumes nothing.
+use Prim.Native.Nat.{ℕ, _+_, _^_, _≤_}
+use mathlib.Core.Path.{_≡_, sym, ap, _∙_, subst}
+use mathlib.Core.Bool.{true}
+use mathlib.Core.List.{List, [], _∷_, _++_, append-nil}
+use lib.ListN.{length}
+use Rattle.setup.specs.Setup.{judged, lengthOf}
+use Rattle.setup.specs.declared.Setup.{Setup}
+use Rattle.setup.specs.declared.Judgement.the-variants.{Accepted}
+use Rattle.scan.specs.Scan.{scan}
+use Rattle.scan.specs.Front.{heldRule}
+use Rattle.scan.specs.Calls.{Report}
+use Rattle.scan.specs.Stream.{stream}
+use Rattle.scan.proofs.RunLaws.{Gives, Result, run-result, run-exists}
+use Rattle.scan.proofs.StreamLaws.{outcome-whole, stream-whole}
+use Rattle.search.specs.Search.{isDatagram, verdictOf}
+use Rattle.search.proofs.Datagrams.{lawful}
+use Rattle.session.specs.Session.{limits, heldBytes, isSound}
+use Rattle.session.specs.declared.Session.{Session}
+use Rattle.session.proofs.Soundness.{sound-facts}
+use Rattle.receiver.specs.declared.Datagram.{Datagram}
+use Rattle.receiver.specs.Feed.{consumer, Whole, meaning, sessionOf, Calls}
+use Rattle.receiver.proofs.Meanings.{SafeOf, meaning-safe, session-sound, session-meaning}
+use Rattle.receiver.proofs.Keeping.{kept}
+use Rattle.receiver.proofs.Agreement.{StateRun, run-of-states, run-of-sessions}
+use Rattle.lines.specs.Lines.{foundIn, answersIn, behind}
+
+module _ (s : Session) (p : List ℕ) (e : isSound s ≡ true) (few : length p ≤ 4096) (most : s .fed + length p ≤ 2 ^ 34) where
+  abbrev setup : Setup
+  setup = s .setup
+
+  ok : judged setup ≡ Accepted
+  ok = sound-facts s e .accepted
+
+  -- the whole piece counts
+  streamed : stream limits (s .fed) (p ∷ []) ≡ p
+  unfolding stream
+  streamed = stream-whole limits (s .fed) p [] (outcome-whole limits (s .fed) (length p) few most) ∙ append-nil p
+
+  -- what a run of calls on it gives
+  module _ {os : List Datagram} {rs : List Report} {t : Whole} (c : StateRun setup ok (meaning s) (p ∷ []) os rs t) where
+    result : Result (consumer setup) (verdictOf setup) (isDatagram setup) (heldRule (setup .identifier) (lengthOf setup)) limits (lawful setup ok) (kept setup ok) (meaning s) (p ∷ []) os rs t
+    result = run-result (consumer setup) (verdictOf setup) (isDatagram setup) (heldRule (setup .identifier) (lengthOf setup)) limits (lawful setup ok) (kept setup ok) c (meaning-safe s e)
+
+    given : Gives (consumer setup) (verdictOf setup) (isDatagram setup) (heldRule (setup .identifier) (lengthOf setup)) limits (lawful setup ok) (kept setup ok) (meaning s) (foundIn s p) (length p) os t
+    given =
+        subst (λ (v : List ℕ). Gives (consumer setup) (verdictOf setup) (isDatagram setup) (heldRule (setup .identifier) (lengthOf setup)) limits (lawful setup ok) (kept setup ok) (meaning s) (scan (verdictOf setup) (heldBytes s ++ v)) (length v) os t)
+        streamed (result .gives)
+
+    ends-behind : t ≡ behind s p
+    ends-behind =
+        λ i.
+        record {
+          scan = record { held = given .held i; handed = given .handed i; passed = given .passed i; fed = given .fed i };
+          carried = given .carried i;
+        }
+
+  -- the session behind the piece isn't turned down by 10
+  pub behind-sound : isSound (sessionOf setup (behind s p)) ≡ true
+  behind-sound =
+      let r = run-exists (consumer setup) (verdictOf setup) (isDatagram setup) (heldRule (setup .identifier) (lengthOf setup)) limits (lawful setup ok) (kept setup ok) (meaning s) (meaning-safe s e) (p ∷ []) in
+      session-sound setup ok (behind s p) (subst (SafeOf setup) (ends-behind (r .3)) (result (r .3) .safe))
+
+  module _ (long : length (s .held) ≡ 64) where
+    -- calls can be made on the piece until it is taken
+    pub run : (os : List Datagram) × (rs : List Report) × (t : Session) × Calls s (p ∷ []) os rs t
+    run =
+        let r = run-exists (consumer setup) (verdictOf setup) (isDatagram setup) (heldRule (setup .identifier) (lengthOf setup)) limits (lawful setup ok) (kept setup ok) (meaning s) (meaning-safe s e) (p ∷ []) in
+        let c = run-of-states setup ok (r .3) (meaning-safe s e) in
+        (r .0, r .1, c .0, subst (λ (x : Session). Calls x (p ∷ []) (r .0) (r .1) (c .0)) (session-meaning s e long) (c .2))
+
+    -- and hand out these datagrams, and leave this session
+    pub one-by-one :
+        {os : List Datagram} {rs : List Report} {t : Session} → Calls s (p ∷ []) os rs t
+        → (os ≡ answersIn s p) × (t ≡ sessionOf setup (behind s p))
+    one-by-one {os} {rs} {t} c =
+        let r = run-of-sessions setup ok {t = meaning s} (subst (λ (x : Session). Calls x (p ∷ []) os rs t) (sym (session-meaning s e long)) c) (meaning-safe s e) in
+        (given (r .2) .handed-out, r .1 .same ∙ ap (sessionOf setup) (ends-behind (r .2)))

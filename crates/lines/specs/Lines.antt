@@ -1,0 +1,81 @@
+-- What feeding a piece to its end and writing a line for each datagram gives, at once.
+use Prim.Native.Nat.{ℕ, suc, _+_}
+use mathlib.Core.Bool.{cond}
+use mathlib.Core.List.{List, [], _∷_, _++_}
+use lib.Dec.{leb}
+use lib.ListN.{length, drop}
+use Rattle.setup.specs.declared.Setup.{Setup}
+use Rattle.text.specs.TextLine.{lineText}
+use Rattle.scan.specs.Scan.{Scanned, scan}
+use Rattle.scan.specs.Stream.{joined}
+use Rattle.scan.specs.Carry.{told, carriedAfter}
+use Rattle.search.specs.Search.{verdictOf}
+use Rattle.session.specs.Session.{limits, heldBytes, isSound}
+use Rattle.session.specs.declared.Session.{Session}
+use Rattle.receiver.specs.Feed.{consumer, Whole, meaning, sessionOf}
+use Rattle.receiver.specs.declared.Datagram.{Datagram}
+use Rattle.lines.specs.declared.Received.{Received}
+use Rattle.lines.specs.declared.Received.the-variants.{Lines, Refused}
+use Rattle.lines.specs.declared.Batch.{Batch}
+
+-- the line of a datagram that came back, under its ordinal
+abbrev pub lineOf : Setup → ℕ → Datagram → List ℕ
+lineOf u ordinal o =
+    lineText u ordinal (o .fields .counter) (o .fields .latency) (o .gap) (o .gyro ∷ o .accelerometer ∷ o .inclinometer ∷ []) (o .fields .statuses)
+    (o .totals)
+
+-- the lines of datagrams that came back after n others
+unfoldable pub linesAfter : Setup → ℕ → List Datagram → List ℕ
+linesAfter u n [] = []
+linesAfter u n (o ∷ os) = lineOf u (suc n) o ++ linesAfter u (suc n) os
+
+-- the scan of the bytes held and the whole piece
+abbrev pub foundIn : Session → List ℕ → Scanned
+foundIn s p = scan (verdictOf (s .setup)) (heldBytes s ++ p)
+
+-- what comes back with its datagrams, and their lines
+abbrev pub answersIn : Session → List ℕ → List Datagram
+answersIn s p = told (consumer (s .setup)) (meaning s .carried) (foundIn s p .datagrams)
+
+unfoldable pub linesIn : Session → List ℕ → List ℕ
+linesIn s p = linesAfter (s .setup) (s .datagrams .0) (answersIn s p)
+
+-- what the session stands for behind the piece
+abbrev pub behind : Session → List ℕ → Whole
+behind s p =
+    record {
+      scan =
+          record {
+            held = foundIn s p .held;
+            handed = meaning s .scan .handed + length (joined (foundIn s p .datagrams));
+            passed = s .passed + foundIn s p .passed;
+            fed = s .fed + length p;
+          };
+      carried = carriedAfter (consumer (s .setup)) (meaning s .carried) (foundIn s p .datagrams);
+    }
+
+-- a buffer of so many bytes is long enough for the lines of any piece
+abbrev pub enough : ℕ
+enough = 72000
+
+-- the answer: refused by 10, 11 or 12 as by feed, by 14 where the buffer may be shorter than the lines; or the lines
+abbrev pub refusing : Session → ℕ → Batch
+refusing s n = record { answer = Refused n; session = s }
+
+unfoldable pub batchOf : Session → List ℕ → ℕ → Batch
+batchOf s p room =
+    cond (isSound s)
+    (cond (leb (length p) (limits .piece))
+    (cond (leb (s .fed + length p) (limits .session))
+    (cond (leb enough room) (record { answer = Lines (length (linesIn s p)); session = sessionOf (s .setup) (behind s p) }) (refusing s 14))
+    (refusing s 12))
+    (refusing s 11))
+    (refusing s 10)
+
+-- the buffer at exit: the lines from the front and every later byte as it was, or all as it was
+abbrev pub bufferBy : Received → List ℕ → List ℕ → List ℕ
+bufferBy (Lines n) text b = text ++ drop n b
+bufferBy (Refused n) text b = b
+
+unfoldable pub batchBuffer : Session → List ℕ → List ℕ → List ℕ
+batchBuffer s p b = bufferBy (batchOf s p (length b) .answer) (linesIn s p) b

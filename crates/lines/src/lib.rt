@@ -1,0 +1,294 @@
+// A whole piece at once: the text lines of all datagrams that it completes, into a lent buffer.
+ghost use mathlib.Core.Path.{_≡_};
+ghost use mathlib.Core.Bool.{true, false};
+ghost use mathlib.Core.List.{[], _∷_};
+ghost use Prim.Native.Nat.{_+_, _-_, _^_, _≤_, _<_};
+ghost use lib.ListN.{length};
+ghost use lib.Seq.{sets};
+ghost use Rattle.setup.specs.Setup.{judged};
+ghost use Rattle.setup.specs.declared.Judgement.the-variants.{Accepted};
+ghost use Rattle.text.specs.TextLine.{lineText, outside};
+ghost use Rattle.text.specs.Putting.{Put};
+ghost use Rattle.search.specs.Search.{isDatagram};
+ghost use Rattle.receiver.specs.Feed.{padded};
+ghost use Rattle.lines.specs.Lines.{lineOf, foundIn, refusing, batchOf, batchBuffer};
+ghost use Rattle.lines.specs.Steps.{keptIn, nextLine, startOf, nextOf, stopped, scanAt, Ready, Through, Made, Let};
+use motion::Axes;
+use motion::Datagrams;
+use motion::Gap;
+use motion::Totals;
+use receiver::Answer;
+use receiver::Datagram;
+use search::Place;
+use session::Session;
+use setup::Setup;
+use text::Written;
+
+// What came of a piece: so many bytes of lines stand at the front of the buffer, or a number refused it.
+pub enum Received {
+    Lines(usize),
+    Refused(u8),
+}
+
+// With the session that comes back.
+pub struct Batch {
+    pub answer: Received,
+    pub session: Session,
+}
+
+// What a datagram of the piece moves on.
+struct Progress {
+    // as in a session
+    datagrams: u64,
+    passed: u64,
+    previous: u8,
+    axes: Axes,
+    // the place in the piece, and how many bytes of the buffer are written
+    at: usize,
+    used: usize,
+}
+
+// The piece is refused by a number: the session comes back as given.
+fn refuse(session: Session, number: u8) -> Batch
+    ensures { λ r. ⌜ r ≡ refusing session number ⌝ }
+{
+    Batch {
+        answer: Received::Refused(number),
+        session: session,
+    }
+}
+
+// Bytes with zeros behind them, 64 in all.
+fn keep(bytes: &[u8]) -> [u8; 64]
+    requires { ⌜ length (now bytes) ≤ 64 ⌝ }
+    ensures { λ r. ⌜ r ≡ padded 64 (now (bytes .entry)) ⌝ }
+{
+    let mut kept = [0u8; 64];
+    let mut i = 0;
+    while i < bytes.len() {
+        kept[i] = bytes[i];
+        i += 1;
+    }
+    kept
+}
+
+// A line behind those that are written.
+fn put_behind(
+    buffer: &mut [u8],
+    used: usize,
+    setup: Setup,
+    ordinal: u64,
+    counter: u8,
+    latency: u16,
+    gap: Gap,
+    readings: [[i32; 3]; 3],
+    statuses: [u8; 3],
+    totals: Totals,
+) -> usize
+    requires { ⌜ judged setup ≡ Accepted ⌝ ∗ ⌜ outside ordinal readings totals ≡ false ⌝ ∗ ⌜ used + length (lineText setup ordinal counter latency gap readings statuses totals) ≤ length (now buffer) ⌝ }
+    ensures { λ r. ⌜ Put (now (buffer .entry)) used (lineText setup ordinal counter latency gap readings statuses totals) (now (buffer .exit)) r ⌝ }
+{
+    let written = text::write_line(
+        &mut buffer[used..],
+        setup,
+        ordinal,
+        counter,
+        latency,
+        gap,
+        readings,
+        statuses,
+        totals,
+    );
+    match written {
+        Written::Line(n) => used + n,
+        Written::Refused(number) => used,
+    }
+}
+
+// The next datagram d, behind so many bytes passed over: it moves the totals on, and its line is written.
+fn one_line(
+    setup: Setup,
+    progress: Progress,
+    skipped: usize,
+    d: &[u8],
+    buffer: &mut [u8],
+) -> Progress
+    requires { ⌜ Ready setup progress (progress .at + (skipped + length (now d))) (length (now buffer)) ⌝ ∗ ⌜ isDatagram setup (now d) ≡ true ⌝ }
+    ensures { λ r. ⌜ r ≡ nextOf setup progress skipped (now (d .entry)) ⌝ ∗ ⌜ now (buffer .exit) ≡ sets (now (buffer .entry)) (progress .used) (nextLine setup (keptIn progress) (now (d .entry))) ⌝ }
+{
+    let identifier = setup.identifier;
+    let handed = progress.datagrams;
+    let readings = wire::readings(identifier, d);
+    let statuses = wire::statuses(identifier, d);
+    let counter = wire::counter(identifier, d);
+    let latency = wire::latency(identifier, d);
+    let axes = motion::step(setup, progress.axes, readings, statuses);
+    let gap = motion::gap_between(setup, handed == 0, progress.previous, counter);
+    let totals = motion::totals_of(axes);
+    let used = put_behind(
+        buffer,
+        progress.used,
+        setup,
+        handed + 1,
+        counter,
+        latency,
+        gap,
+        readings,
+        statuses,
+        totals,
+    );
+    Progress {
+        datagrams: handed + 1,
+        passed: progress.passed + (skipped as u64),
+        previous: counter,
+        axes: axes,
+        at: progress.at + (skipped + d.len()),
+        used: used,
+    }
+}
+
+// So many bytes are passed over, and no datagram follows.
+fn stop(progress: Progress, skipped: usize) -> Progress
+    requires { ⌜ (progress .passed + skipped < 2 ^ 64) × (progress .at + skipped < 2 ^ 64) ⌝ }
+    ensures { λ r. ⌜ r ≡ stopped progress skipped ⌝ }
+{
+    let mut after = progress;
+    after.passed = progress.passed + (skipped as u64);
+    after.at = progress.at + skipped;
+    after
+}
+
+// The lines of the piece from a place on.
+fn lines_from(setup: Setup, start: Progress, piece: &[u8], buffer: &mut [u8]) -> Progress
+    requires { ⌜ Ready setup start (length (now piece)) (length (now buffer)) ⌝ }
+    ensures { λ r. ⌜ Through setup start (now (piece .entry)) (now (buffer .entry)) (now (buffer .exit)) r ⌝ }
+{
+    let size = setup::length_of(setup);
+    let len = piece.len();
+    let mut going = start;
+    while going.at < len {
+        let at = going.at;
+        let rest = &piece[at..];
+        match search::find(setup, rest) {
+            Place::Whole(skipped) => {
+                let end = skipped + size;
+                going = one_line(setup, going, skipped, &rest[skipped..end], buffer);
+            }
+            Place::Open(skipped) => {
+                return stop(going, skipped);
+            }
+        }
+    }
+    going
+}
+
+// The same for a session that holds nothing, with the session behind the piece.
+fn lines_of(session: Session, piece: &[u8], at: usize, used: usize, buffer: &mut [u8]) -> Batch
+    requires { ⌜ Ready (session .setup) (startOf session at used) (length (now piece)) (length (now buffer)) ⌝ ∗ ⌜ session .fed + (length (now piece) - at) ≤ 2 ^ 34 ⌝ }
+    ensures { λ r. ⌜ Made session used (scanAt (session .setup) (now (piece .entry)) at) (length (now (piece .entry)) - at) (now (buffer .entry)) (now (buffer .exit)) r ⌝ }
+{
+    let setup = session.setup;
+    let len = piece.len();
+    let axes = session.axes;
+    let start = Progress {
+        datagrams: session.datagrams.0,
+        passed: session.passed,
+        previous: session.previous,
+        axes: axes,
+        at: at,
+        used: used,
+    };
+    let end = lines_from(setup, start, piece, buffer);
+    let place = end.at;
+    let last = end.axes;
+    let held = keep(&piece[place..]);
+    let after = Session {
+        setup: setup,
+        held: held,
+        count: len - place,
+        datagrams: Datagrams(end.datagrams),
+        passed: end.passed,
+        fed: session.fed + ((len - at) as u64),
+        previous: end.previous,
+        axes: last,
+    };
+    Batch {
+        answer: Received::Lines(end.used),
+        session: after,
+    }
+}
+
+// The line of a datagram that came back, at the front of the buffer.
+fn first_line(setup: Setup, ordinal: u64, datagram: Datagram, buffer: &mut [u8]) -> usize
+    requires { ⌜ judged setup ≡ Accepted ⌝ ∗ ⌜ outside ordinal (datagram .gyro ∷ datagram .accelerometer ∷ datagram .inclinometer ∷ []) (datagram .totals) ≡ false ⌝ ∗ ⌜ length (lineOf setup ordinal datagram) ≤ length (now buffer) ⌝ }
+    ensures { λ r. ⌜ Put (now (buffer .entry)) 0 (lineOf setup ordinal datagram) (now (buffer .exit)) r ⌝ }
+{
+    let gyro = datagram.gyro;
+    let accelerometer = datagram.accelerometer;
+    let inclinometer = datagram.inclinometer;
+    let fields = datagram.fields;
+    let statuses = fields.statuses;
+    let gap = datagram.gap;
+    let totals = datagram.totals;
+    put_behind(
+        buffer,
+        0,
+        setup,
+        ordinal,
+        fields.counter,
+        fields.latency,
+        gap,
+        [gyro, accelerometer, inclinometer],
+        statuses,
+        totals,
+    )
+}
+
+// The lines of a piece behind bytes that are held.
+fn lines_behind(session: Session, piece: &[u8], buffer: &mut [u8]) -> Batch
+    requires { ⌜ Let session (length (now piece)) (length (now buffer)) ⌝ }
+    ensures { λ r. ⌜ Made session 0 (foundIn session (now (piece .entry))) (length (now (piece .entry))) (now (buffer .entry)) (now (buffer .exit)) r ⌝ }
+{
+    let setup = session.setup;
+    let reply = receiver::feed(session, piece);
+    let answer = reply.answer;
+    let taken = reply.taken;
+    let next = reply.session;
+    match answer {
+        Answer::Datagram => {
+            let datagram = reply.datagram;
+            let used = first_line(setup, next.datagrams.0, datagram, buffer);
+            lines_of(next, piece, taken, used, buffer)
+        }
+        Answer::Waiting => Batch {
+            answer: Received::Lines(0),
+            session: next,
+        },
+        Answer::Refused(number) => refuse(session, number),
+    }
+}
+
+// A piece fed to its end, and the line of each datagram that it completes; or 10, 11, 12 or 14 refuses it and writes nothing.
+pub fn receive_lines(session: Session, piece: &[u8], buffer: &mut [u8]) -> Batch
+    ensures { λ r. ⌜ r ≡ batchOf session (now (piece .entry)) (length (now (buffer .entry))) ⌝ ∗ ⌜ now (buffer .exit) ≡ batchBuffer session (now (piece .entry)) (now (buffer .entry)) ⌝ }
+{
+    let count = session.count;
+    let fed = session.fed;
+    let len = piece.len();
+    if !session::is_sound(session) {
+        return refuse(session, 10);
+    }
+    if 4096 < len {
+        return refuse(session, 11);
+    }
+    if 17179869184 < fed + (len as u64) {
+        return refuse(session, 12);
+    }
+    if buffer.len() < 72000 {
+        return refuse(session, 14);
+    }
+    if count == 0 {
+        return lines_of(session, piece, 0, 0, buffer);
+    }
+    lines_behind(session, piece, buffer)
+}

@@ -1,0 +1,2 @@
+-- Laws of what a part does.
+pub mod PartLaws
