@@ -1,12 +1,12 @@
 -- Of a setup that is accepted the rate, the units and the shifts are the known ones: nothing counts as 0 that isn't. Assumes nothing.
 use Prim.Native.Nat.{ℕ, _≤_, _<_}
-use native.Mathlib.Omega.{arith}
-use mathlib.Core.Bool.{Bool, true, false, _||_}
+use mathlib.Core.Bool.{false, _||_}
 use mathlib.Core.List.{List}
-use mathlib.Core.Path.{_≡_, refl}
+use mathlib.Core.Path.{_≡_}
 use borrow.Author.Tests.{ltb-false}
 use lib.Dec.{ltb}
 use lib.ListN.{getD}
+use Rattle.integers.proofs.Ranges.{or-split}
 use Rattle.setup.specs.Setup.{anyAbove, judged}
 use Rattle.setup.specs.declared.Setup.{Setup}
 use Rattle.setup.specs.declared.Judgement.the-variants.{Accepted}
@@ -17,14 +17,10 @@ use Rattle.motion.proofs.Doubles.{shift-known, unit-known}
 use Rattle.motion.proofs.Gaps.{rate-known}
 use Rattle.motion.proofs.NineAxes.{each}
 
-or-false-both : (a b : Bool) → (a || b) ≡ false → (a ≡ false) × (b ≡ false)
-or-false-both false b e = (refl, e)
-or-false-both true b e = let z : _≡_ {A = ℕ} 0 1 = cc in absurd (omega arith)
-
 none-above : (limit : ℕ) (l : List ℕ) → anyAbove limit l ≡ false → (group : ℕ) → group < 3 → getD l group 0 ≤ limit
 none-above limit l e =
-    let p = or-false-both (ltb limit (getD l 0 0) || ltb limit (getD l 1 0)) (ltb limit (getD l 2 0)) e in
-    let q = or-false-both (ltb limit (getD l 0 0)) (ltb limit (getD l 1 0)) (p .0) in
+    let p = or-split (ltb limit (getD l 0 0) || ltb limit (getD l 1 0)) (ltb limit (getD l 2 0)) e in
+    let q = or-split (ltb limit (getD l 0 0)) (ltb limit (getD l 1 0)) (p .0) in
     each (λ n. getD l n 0 ≤ limit) (ltb-false limit (getD l 0 0) (q .0)) (ltb-false limit (getD l 1 0) (q .1)) (ltb-false limit (getD l 2 0) (p .1))
 
 module _ (s : Setup) (a : judged s ≡ Accepted) where

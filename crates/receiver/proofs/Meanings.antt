@@ -9,11 +9,12 @@ use borrow.Author.Tests.{eqb-true, eq-eqb}
 use lib.Dec.{eqb}
 use lib.ListN.{length, drop, replicate, length-append, length-drop, take-append-drop}
 use lib.Seq.{length-take-le}
+use Rattle.integers.proofs.Ranges.{and-split}
 use Rattle.setup.specs.Setup.{judged, lengthOf}
 use Rattle.setup.specs.declared.Setup.{Setup}
 use Rattle.setup.specs.declared.Judgement.the-variants.{Accepted}
 use Rattle.scan.specs.Front.{heldRule}
-use Rattle.scan.proofs.CallsLaws.{and-true, and-parts}
+use Rattle.scan.proofs.CallsLaws.{and-true}
 use Rattle.scan.proofs.RunLaws.{Safe}
 use Rattle.session.specs.Session.{limits, heldBytes, allZero, axesRight, isSound}
 use Rattle.session.specs.declared.Session.{Session}
@@ -31,7 +32,7 @@ module _ (u : Setup) (n : ℕ) (x : Kept) where
   pub kept-parts : keptRight u n x ≡ true → (n ≡ lengthOf u * x .datagrams) × (axesRight u (x .datagrams) (x .axes) ≡ true)
   unfolding keptRight
   kept-parts e =
-      let a = and-parts (eqb n (lengthOf u * x .datagrams)) (axesRight u (x .datagrams) (x .axes)) e in
+      let a = and-split (eqb n (lengthOf u * x .datagrams)) (axesRight u (x .datagrams) (x .axes)) e in
       (eqb-true n (lengthOf u * x .datagrams) (a .0), a .1)
 
   pub parts-kept : n ≡ lengthOf u * x .datagrams → axesRight u (x .datagrams) (x .axes) ≡ true → keptRight u n x ≡ true
@@ -64,7 +65,7 @@ zero-zeros : (l : List ℕ) → allZero l ≡ true → l ≡ replicate (length l
 unfolding allZero
 zero-zeros [] e = refl
 zero-zeros (b ∷ l) e =
-    let p = and-parts (eqb b 0) (allZero l) e in
+    let p = and-split (eqb b 0) (allZero l) e in
     let z : b ≡ 0 = eqb-true b 0 (p .0) in
     rw z (ap (λ (k : List ℕ). 0 ∷ k) (zero-zeros l (p .1)))
 

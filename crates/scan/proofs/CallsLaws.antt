@@ -11,16 +11,13 @@ use borrow.Author.Tests.{eqb-true, leb-true, eq-eqb, le-leb, lt-leb}
 use lib.Dec.{eqb, leb}
 use lib.ListN.{length, take, drop, length-append, length-drop, take-append-drop}
 use lib.Seq.{length-take-le, take-length}
+use Rattle.integers.proofs.Ranges.{and-split}
 use Rattle.scan.specs.Scan.{Verdict, First, ends, finds, later, first, Undecided, Stable, Prompt}
 use Rattle.scan.specs.Calls.{State, fresh, Limits, sound, Answer, datagram, waiting, refused, Fed, refusing, unlessFound, answered, after, taking, takes, call, feed, Holds}
 use Rattle.scan.proofs.ScanLaws.{first-append, onward, first-undecided, parted-at, behind-none}
 
 pub and-true : {a b : Bool} → a ≡ true → b ≡ true → a && b ≡ true
 and-true p q = rw (p, q)
-
-pub and-parts : (a b : Bool) → a && b ≡ true → (a ≡ true) × (b ≡ true)
-and-parts true b e = (refl, e)
-and-parts false b e = absurd (let z : _≡_ {A = ℕ} 0 1 = cc in omega arith)
 
 pub no-both : {f : First} {n m : ℕ} {h d r : List ℕ} {A : Type 0} → f ≡ ends n h → f ≡ finds m d r → A
 no-both p q = absurd (let z : _≡_ {A = ℕ} 0 1 = cc in omega arith)
@@ -190,8 +187,8 @@ module _ (rule : List ℕ → Bool) (L : Limits) (s : State) where
   pub sound-parts : sound rule L s ≡ true → Sound rule L s
   unfolding sound
   sound-parts e =
-      let a = and-parts (rule (s .held)) _ e in
-      let b = and-parts (eqb (s .handed + s .passed + length (s .held)) (s .fed)) (leb (s .fed) (L .session)) (a .1) in
+      let a = and-split (rule (s .held)) _ e in
+      let b = and-split (eqb (s .handed + s .passed + length (s .held)) (s .fed)) (leb (s .fed) (L .session)) (a .1) in
       record { ruled = a .0; sum = eqb-true _ _ (b .0); most = leb-true _ _ (b .1) }
 
   pub parts-sound : Sound rule L s → sound rule L s ≡ true

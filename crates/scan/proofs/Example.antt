@@ -8,11 +8,11 @@ use native.Mathlib.Omega.{arith}
 use borrow.Author.Tests.{eqb-true}
 use lib.Dec.{eqb}
 use lib.ListN.{length, getD}
+use Rattle.integers.proofs.Ranges.{and-split}
 use Rattle.scan.specs.Scan.{Verdict, scanFrom, scan, first}
 use Rattle.scan.specs.Front.{front, heldRule, Shaped}
 use Rattle.scan.specs.Calls.{fresh, Limits, Report, datagram, waiting, takes, call}
 use Rattle.scan.specs.Carry.{Session, freshSession, SessionRun, plain, Delivered}
-use Rattle.scan.proofs.CallsLaws.{and-parts}
 use Rattle.scan.proofs.FrontLaws.{front-lawful}
 use Rattle.scan.proofs.RunLaws.{always-delivered, plain-keeps}
 
@@ -23,11 +23,11 @@ three-shaped : Shaped 7 3 three
 three-shaped =
     record {
       some = omega arith;
-      long = λ d e. eqb-true _ _ (and-parts (eqb (length d) 3) _ e .0);
+      long = λ d e. eqb-true _ _ (and-split (eqb (length d) 3) _ e .0);
       begins =
           λ d e.
-          let r = and-parts (eqb (length d) 3) (eqb (getD d 0 0) 7 && eqb (getD d 2 0) 1) e .1 in
-          eqb-true _ _ (and-parts (eqb (getD d 0 0) 7) (eqb (getD d 2 0) 1) r .0);
+          let r = and-split (eqb (length d) 3) (eqb (getD d 0 0) 7 && eqb (getD d 2 0) 1) e .1 in
+          eqb-true _ _ (and-split (eqb (getD d 0 0) 7) (eqb (getD d 2 0) 1) r .0);
     }
 
 abbrev verdict : List ℕ → Verdict

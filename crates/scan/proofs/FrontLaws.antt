@@ -9,11 +9,12 @@ use borrow.Author.Tests.{eqb-true, leb-true, leb-false, ltb-true, eq-eqb, ne-eqb
 use lib.Dec.{eqb, leb, ltb}
 use lib.ListN.{length, take, length-append}
 use lib.Seq.{take-append-le, take-at}
+use Rattle.integers.proofs.Ranges.{and-split}
 use Rattle.scan.specs.Scan.{Verdict, waits, passes, hands, holding, passing, handing, scan, Undecided}
 use Rattle.scan.specs.Front.{frontBy, front, heldRule, Shaped}
 use Rattle.scan.specs.Stream.{Lawful}
 use Rattle.scan.proofs.ScanLaws.{scan-waits, scan-passes, scan-hands}
-use Rattle.scan.proofs.CallsLaws.{and-true, and-parts}
+use Rattle.scan.proofs.CallsLaws.{and-true}
 use Rattle.scan.proofs.AmongLaws.{follows-stable}
 
 -- what a verdict tells of the tests that it was reached by
@@ -99,7 +100,7 @@ module _ (identifier size : ℕ) (acceptable : List ℕ → Bool) where
     unfolding heldRule front
     rule-undecided [] e = tt
     rule-undecided (b ∷ u) e =
-        let k = and-parts (eqb b identifier) (ltb (length (b ∷ u)) size) e in
+        let k = and-split (eqb b identifier) (ltb (length (b ∷ u)) size) e in
         rw (k .0, lt-leb size (length (b ∷ u)) (ltb-true _ _ (k .1)))
 
     pub front-lawful : Lawful (front identifier size acceptable) acceptable (heldRule identifier size)
@@ -120,7 +121,7 @@ module _ (identifier size : ℕ) (acceptable : List ℕ → Bool) where
     pub held-fewer : (u : List ℕ) → heldRule identifier size u ≡ true → length u < size
     unfolding heldRule
     held-fewer [] e = D .some
-    held-fewer (b ∷ u) e = ltb-true _ _ (and-parts (eqb b identifier) (ltb (length (b ∷ u)) size) e .1)
+    held-fewer (b ∷ u) e = ltb-true _ _ (and-split (eqb b identifier) (ltb (length (b ∷ u)) size) e .1)
 
     -- 01, The scan, a sentence each: a byte other than the identifier is passed over
     pub other-byte :

@@ -7,7 +7,7 @@ use mathlib.Core.Path.{_≡_, refl, ap, _∙_}
 use lib.Dec.{eqb, ltb, leb}
 use lib.ListN.{length, getD}
 use borrow.Author.Tests.{ltb-true, ltb-false, leb-true, le-leb, lt-leb, eqb-true, eq-eqb, ne-eqb, not-false}
-use Rattle.integers.proofs.Ranges.{and-split}
+use Rattle.integers.proofs.Ranges.{and-split, or-split}
 use Rattle.setup.specs.Layout.{layoutOf, lengthIn}
 use Rattle.setup.specs.Setup.{isListed, lengthOf}
 use Rattle.setup.specs.declared.Found.{Found}
@@ -96,10 +96,6 @@ in-order false true false d e = refl
 in-order false true true false e = refl
 in-order false true true true e = refl
 
-neither : (a b : Bool) → (a || b) ≡ false → (a ≡ false) × (b ≡ false)
-neither true b e = let z : _≡_ {A = ℕ} 0 1 = cc in absurd (omega arith)
-neither false b e = (refl, e)
-
 few : (n : ℕ) → leb n 1 ≡ not (ltb 1 n)
 few n = by (ltb 1 n) refl
   where
@@ -141,6 +137,6 @@ module _ (u : Setup) (s : List ℕ) where
       by : (f : Found) → layoutOf (u .identifier) ≡ f → (18 + 2 * u .termination ≤ lengthOf u) × (length s ≡ lengthOf u)
       by (Listed l) d =
           let k = listed-length u (rw d) in
-          let n = neither (eqb (lengthOf u) 0 || ltb 1 (u .termination)) (not (eqb (length s) (lengthOf u))) e .1 in
+          let n = or-split (eqb (lengthOf u) 0 || ltb 1 (u .termination)) (not (eqb (length s) (lengthOf u))) e .1 in
           (omega arith, eqb-true (length s) (lengthOf u) (not-false (eqb (length s) (lengthOf u)) n))
       by Unlisted d = let z : true ≡ false = rw d at e in let y : _≡_ {A = ℕ} 0 1 = cc in absurd (omega arith)
