@@ -23,7 +23,7 @@ use motion::Gap;
 use motion::GroupTotals;
 use motion::Total;
 use motion::Totals;
-use setup::Judgement;
+use setup::Ruling;
 use setup::Setup;
 use text::Written;
 ghost use mathlib.Core.Path.{_≡_};
@@ -114,10 +114,10 @@ fn bytes_of(digits: &[u8]) -> Bytes
     }
 }
 
-fn number_of(judgement: Judgement) -> u64 {
-    match judgement {
-        Judgement::Accepted => 0,
-        Judgement::Refused(number) => number as u64,
+fn number_of(ruling: Ruling) -> u64 {
+    match ruling {
+        Ruling::Accepted => 0,
+        Ruling::Refused(number) => number as u64,
     }
 }
 

@@ -3,7 +3,8 @@
 use mathlib.Core.List.{List}
 use Prim.Native.Nat.{ℕ, _^_, _≤_, _<_}
 use lib.Dec.{lit<, lit≤}
-use Rattle.crc.specs.Check.{Parameters, stim300, padded, checkOf, check32, Bytes}
+use Rattle.integers.specs.Bytes.{AllBytes}
+use Rattle.crc.specs.Check.{Parameters, stim300, padded, checkOf, check32}
 use Rattle.crc.proofs.Laws.{register-lt}
 use Rattle.crc.proofs.Padding.{padded-bytes}
 
@@ -18,12 +19,12 @@ unfolding stim300
 stim300-sound = record { wide = lit≤ tt; polynomial-fits = lit< tt; start-fits = lit< tt }
 
 -- the check of bytes is a register
-pub checkOf-lt : (p : Parameters) (s : List ℕ) → Sound p → Bytes s → checkOf p s < 2 ^ p .width
+pub checkOf-lt : (p : Parameters) (s : List ℕ) → Sound p → AllBytes s → checkOf p s < 2 ^ p .width
 unfolding checkOf
 checkOf-lt p s ok h =
     register-lt (p .width) (p .polynomial) (ok .wide) (ok .polynomial-fits) (padded (p .multiple) s) (p .start)
     (padded-bytes (p .multiple) s h) (ok .start-fits)
 
-pub check32-lt : (s : List ℕ) → Bytes s → check32 s < 2 ^ 32
+pub check32-lt : (s : List ℕ) → AllBytes s → check32 s < 2 ^ 32
 unfolding check32 stim300
 check32-lt s h = checkOf-lt stim300 s stim300-sound h

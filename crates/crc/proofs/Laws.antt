@@ -8,7 +8,9 @@ use native.Mathlib.Omega.{arith}
 use lib.Arith.{mod-mul}
 use lib.Pow.{pow-pos, pow-add}
 use lib.Bits.{bitXor, xor-shr, xor-mod, xor-lt, xor-zero-r}
-use Rattle.crc.specs.Check.{shift, shifts, byteStep, register, Bytes}
+use Rattle.integers.specs.Bytes.{AllBytes}
+use Rattle.integers.proofs.Bytes.{bytes-tail}
+use Rattle.crc.specs.Check.{shift, shifts, byteStep, register}
 use Rattle.crc.proofs.Xor.{digit, xor-middle, xor-scale, xor-choice}
 
 pub pow-join : (i j k : ℕ) → i + j ≡ k → 2 ^ i * 2 ^ j ≡ 2 ^ k
@@ -100,7 +102,7 @@ module _ (w p : ℕ) (hw : 8 ≤ w) where
     unfolding byteStep
     byteStep-lt c x hc hx = shifts-lt 8 (bitXor c (x * 2 ^ (w - 8))) (xor-lt w c (x * 2 ^ (w - 8)) hc (byte-lt x hx))
 
-    pub register-lt : (s : List ℕ) (c : ℕ) → Bytes s → c < 2 ^ w → register w p c s < 2 ^ w
+    pub register-lt : (s : List ℕ) (c : ℕ) → AllBytes s → c < 2 ^ w → register w p c s < 2 ^ w
     unfolding register
     register-lt [] c hs hc = hc
-    register-lt (x ∷ s) c hs hc = register-lt s (byteStep w p c x) (λ i. hs (suc i)) (byteStep-lt c x hc (hs 0))
+    register-lt (x ∷ s) c hs hc = register-lt s (byteStep w p c x) (bytes-tail hs) (byteStep-lt c x hc (hs .each 0))

@@ -6,7 +6,8 @@ use Prim.Native.Nat.{ℕ, zero, suc, _+_, _-_, _*_, _/_, _%_, _<_}
 use native.Mathlib.Nat.{add-zero, suc-mul, div-add-mod', mod-lt, mod-self, mod-eq-of-lt, mul-mod-left}
 use native.Mathlib.Omega.{arith}
 use lib.ListN.{length, getD, replicate, length-append, length-replicate}
-use Rattle.crc.specs.Check.{padding, padded, Bytes}
+use Rattle.integers.specs.Bytes.{AllBytes}
+use Rattle.crc.specs.Check.{padding, padded}
 
 -- fewer than the multiple
 pub padding-few : (m n : ℕ) → 0 < m → length (padding m n) < m
@@ -55,5 +56,5 @@ pub padded-at : (m : ℕ) (s : List ℕ) (j : ℕ) → getD (padded m s) j 0 ≡
 unfolding padded padding
 padded-at m s j = append-at s ((m - length s % m) % m) j
 
-pub padded-bytes : (m : ℕ) (s : List ℕ) → Bytes s → Bytes (padded m s)
-padded-bytes m s h i = rw padded-at (h i)
+pub padded-bytes : (m : ℕ) (s : List ℕ) → AllBytes s → AllBytes (padded m s)
+padded-bytes m s h = record { each = λ i. rw padded-at (h .each i) }

@@ -8,7 +8,9 @@ use native.Mathlib.Numerals.{one-add}
 use native.Mathlib.Omega.{arith}
 use lib.Pow.{pow-pos, mod-pow-add}
 use lib.Bits.{bitXor, xor-lt, xor-zero-r, xor-shifted}
-use Rattle.crc.specs.Check.{Parameters, stim300, shift, shifts, byteStep, register, padded, checkOf, check32, Bytes}
+use Rattle.integers.specs.Bytes.{AllBytes}
+use Rattle.integers.proofs.Bytes.{bytes-tail}
+use Rattle.crc.specs.Check.{Parameters, stim300, shift, shifts, byteStep, register, padded, checkOf, check32}
 use Rattle.crc.specs.Serial.{bitStep, bitsStep, serial, serialOf}
 use Rattle.crc.proofs.Xor.{xor-assoc, xor-scale, xor-choice}
 use Rattle.crc.proofs.Laws.{pow-join, top-lt, shift-xor, shift-low, shift-lt, byteStep-lt}
@@ -77,19 +79,19 @@ module _ (w p : ℕ) (hw : 8 ≤ w) (hp : p < 2 ^ w) where
   unfolding byteStep
   byte-serial c x hc hx = bits-shifts 8 c x hw hc ∙ ap (λ (m : ℕ). shifts w p 8 (bitXor c (m * 2 ^ (w - 8)))) (mod-eq-of-lt hx)
 
-  serial-register : (s : List ℕ) (c : ℕ) → Bytes s → c < 2 ^ w → serial w p c s ≡ register w p c s
+  serial-register : (s : List ℕ) (c : ℕ) → AllBytes s → c < 2 ^ w → serial w p c s ≡ register w p c s
   unfolding serial register
   serial-register [] c hs hc = refl
   serial-register (x ∷ s) c hs hc =
-      ap (λ (n : ℕ). serial w p n s) (byte-serial c x hc (hs 0))
-      ∙ serial-register s (byteStep w p c x) (λ i. hs (suc i)) (byteStep-lt w p hw hp c x hc (hs 0))
+      ap (λ (n : ℕ). serial w p n s) (byte-serial c x hc (hs .each 0))
+      ∙ serial-register s (byteStep w p c x) (bytes-tail hs) (byteStep-lt w p hw hp c x hc (hs .each 0))
 
-pub serial-agrees : (p : Parameters) (s : List ℕ) → Sound p → Bytes s → serialOf p s ≡ checkOf p s
+pub serial-agrees : (p : Parameters) (s : List ℕ) → Sound p → AllBytes s → serialOf p s ≡ checkOf p s
 unfolding serialOf checkOf
 serial-agrees p s ok h =
     serial-register (p .width) (p .polynomial) (ok .wide) (ok .polynomial-fits) (padded (p .multiple) s) (p .start)
     (padded-bytes (p .multiple) s h) (ok .start-fits)
 
-pub stim300-agrees : (s : List ℕ) → Bytes s → serialOf stim300 s ≡ check32 s
+pub stim300-agrees : (s : List ℕ) → AllBytes s → serialOf stim300 s ≡ check32 s
 unfolding check32
 stim300-agrees s h = serial-agrees stim300 s stim300-sound h

@@ -2,8 +2,8 @@
 -- Below, w is the width and p the polynomial without its leading term, as a number; a register c is a number below 2 ^ w.
 -- Assumes nothing.
 use mathlib.Core.List.{List, [], _∷_, _++_}
-use Prim.Native.Nat.{ℕ, zero, suc, _-_, _*_, _/_, _%_, _^_, _<_}
-use lib.ListN.{length, getD, replicate}
+use Prim.Native.Nat.{ℕ, zero, suc, _-_, _*_, _/_, _%_, _^_}
+use lib.ListN.{length, replicate}
 use lib.Bits.{bitXor}
 
 -- `multiple`: zero bytes bring what is checked to a multiple of so many bytes
@@ -64,7 +64,3 @@ mpeg2 =
       start = stim300 .start;
       multiple = 1;
     }
-
--- each element is a byte
-abbrev pub Bytes : List ℕ → Type 0
-Bytes s = (i : ℕ) → getD s i 0 < 2 ^ 8

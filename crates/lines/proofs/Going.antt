@@ -7,9 +7,10 @@ use native.Mathlib.Nat.{add-zero, mul-add, mul-one, mul-le-mul-right}
 use native.Mathlib.Omega.{arith}
 use lib.ListN.{length, take, drop, length-append, length-drop, drop-of-length-le}
 use lib.Seq.{sets, length-sets, length-take-le, drop-drop}
-use Rattle.setup.specs.Setup.{judged, lengthOf}
+use Rattle.session.specs.Session.{padded}
+use Rattle.setup.specs.Setup.{rulingOn, lengthOf}
 use Rattle.setup.specs.declared.Setup.{Setup}
-use Rattle.setup.specs.declared.Judgement.the-variants.{Accepted}
+use Rattle.setup.specs.declared.Ruling.the-variants.{Accepted}
 use Rattle.setup.proofs.Refusals.{accepted-length}
 use Rattle.motion.specs.Gaps.{datagrams}
 use Rattle.scan.specs.Scan.{Scanned, holding, passing, handing, first, scan, Stable}
@@ -21,31 +22,31 @@ use Rattle.search.proofs.Datagrams.{lawful}
 use Rattle.search.proofs.Places.{to-end, IsWhole, IsOpen}
 use Rattle.session.specs.declared.Session.{Session}
 use Rattle.session.proofs.Soundness.{sound-facts}
-use Rattle.receiver.specs.Feed.{keptNext, consumer, padded}
+use Rattle.receiver.specs.Feed.{keptNext, consumer}
 use Rattle.lines.specs.declared.Received.the-variants.{Lines}
 use Rattle.lines.specs.declared.Progress.{Progress}
 use Rattle.lines.specs.Steps.{startOf, keptIn, nextLine, textOf, nextOf, stopped, batchBy, Ready, scanAt, Through, Made, Let}
 use Rattle.lines.proofs.NextLines.{right-next, line-short, text-none, text-more}
 use Rattle.lines.proofs.Placing.{sets-append}
 
-pub stable-of : (u : Setup) → judged u ≡ Accepted → Stable (verdictOf u)
+pub stable-of : (u : Setup) → rulingOn u ≡ Accepted → Stable (verdictOf u)
 stable-of u a = follows-stable (verdictOf u) (isDatagram u) (lawful u a .follows)
 
 -- ---- the scan by what find tells
 
 pub scan-whole :
-    (u : Setup) → judged u ≡ Accepted → (v : List ℕ) (n : ℕ) → IsWhole u v n
+    (u : Setup) → rulingOn u ≡ Accepted → (v : List ℕ) (n : ℕ) → IsWhole u v n
     → scan (verdictOf u) v ≡ passing n (handing (take (lengthOf u) (drop n v)) (scan (verdictOf u) (drop (n + lengthOf u) v)))
 scan-whole u a v n w = scan-first (verdictOf u) (stable-of u a) v ∙ ap (unrolled (verdictOf u)) (w .scan)
 
 pub scan-open :
-    (u : Setup) → judged u ≡ Accepted → (v : List ℕ) (n : ℕ) → IsOpen u v n → scan (verdictOf u) v ≡ passing n (holding (drop n v))
+    (u : Setup) → rulingOn u ≡ Accepted → (v : List ℕ) (n : ℕ) → IsOpen u v n → scan (verdictOf u) v ≡ passing n (holding (drop n v))
 scan-open u a v n w = scan-first (verdictOf u) (stable-of u a) v ∙ ap (unrolled (verdictOf u)) (w .scan)
 
 -- ---- counts that stay in range
 
 -- few datagrams: 18 bytes each, of at most 2 ^ 34
-pub few-of : (u : Setup) → judged u ≡ Accepted → (n rest : ℕ) → lengthOf u * n + rest ≤ 2 ^ 34 → n < 2 ^ 30
+pub few-of : (u : Setup) → rulingOn u ≡ Accepted → (n rest : ℕ) → lengthOf u * n + rest ≤ 2 ^ 34 → n < 2 ^ 30
 few-of u a n rest h = omega (arith, mul-le-mul-right n (accepted-length u a .0))
 
 -- room for fewer bytes

@@ -19,10 +19,10 @@ use Rattle.scan.specs.Scan.{Scanned, First, ends, finds, first, passing, handin
 use Rattle.scan.specs.Carry.{steps, carriedAfter}
 use Rattle.search.specs.Search.{verdictOf, placeOf}
 use Rattle.search.proofs.Places.{IsWhole, found-whole, found-open}
-use Rattle.session.specs.Session.{heldBytes}
+use Rattle.session.specs.Session.{heldBytes, padded}
 use Rattle.session.specs.declared.Session.{Session}
 use Rattle.session.proofs.Soundness.{Facts, sound-facts}
-use Rattle.receiver.specs.Feed.{Kept, keptNext, tell, datagramWith, consumer, meaning, feedOf, padded}
+use Rattle.receiver.specs.Feed.{Kept, keptNext, tell, datagramWith, consumer, meaning, feedOf}
 use Rattle.receiver.specs.Turns.{turnOf, turnAtOnce}
 use Rattle.receiver.specs.declared.Answer.the-variants.{Datagram as HandedOut, Waiting}
 use Rattle.receiver.specs.declared.Reply.{Reply}

@@ -5,9 +5,9 @@ use mathlib.Core.Path.{_≡_, sym, ap, _∙_, subst}
 use mathlib.Core.Bool.{true}
 use mathlib.Core.List.{List, [], _∷_, _++_, append-nil}
 use lib.ListN.{length}
-use Rattle.setup.specs.Setup.{judged, lengthOf}
+use Rattle.setup.specs.Setup.{rulingOn, lengthOf}
 use Rattle.setup.specs.declared.Setup.{Setup}
-use Rattle.setup.specs.declared.Judgement.the-variants.{Accepted}
+use Rattle.setup.specs.declared.Ruling.the-variants.{Accepted}
 use Rattle.scan.specs.Scan.{scan}
 use Rattle.scan.specs.Front.{heldRule}
 use Rattle.scan.specs.Calls.{Report}
@@ -20,7 +20,7 @@ use Rattle.session.specs.Session.{limits, heldBytes, isSound}
 use Rattle.session.specs.declared.Session.{Session}
 use Rattle.session.proofs.Soundness.{sound-facts}
 use Rattle.receiver.specs.declared.Datagram.{Datagram}
-use Rattle.receiver.specs.Feed.{consumer, Whole, meaning, sessionOf, Calls}
+use Rattle.receiver.specs.Feed.{consumer, SessionMeaning, meaning, sessionOf, Calls}
 use Rattle.receiver.proofs.Meanings.{SafeOf, meaning-safe, session-sound, session-meaning}
 use Rattle.receiver.proofs.Keeping.{kept}
 use Rattle.receiver.proofs.Agreement.{StateRun, run-of-states, run-of-sessions}
@@ -30,7 +30,7 @@ module _ (s : Session) (p : List ℕ) (e : isSound s ≡ true) (few : length p �
   abbrev setup : Setup
   setup = s .setup
 
-  ok : judged setup ≡ Accepted
+  ok : rulingOn setup ≡ Accepted
   ok = sound-facts s e .accepted
 
   -- the whole piece counts
@@ -39,7 +39,7 @@ module _ (s : Session) (p : List ℕ) (e : isSound s ≡ true) (few : length p �
   streamed = stream-whole limits (s .fed) p [] (outcome-whole limits (s .fed) (length p) few most) ∙ append-nil p
 
   -- what a run of calls on it gives
-  module _ {os : List Datagram} {rs : List Report} {t : Whole} (c : StateRun setup ok (meaning s) (p ∷ []) os rs t) where
+  module _ {os : List Datagram} {rs : List Report} {t : SessionMeaning} (c : StateRun setup ok (meaning s) (p ∷ []) os rs t) where
     result : Result (consumer setup) (verdictOf setup) (isDatagram setup) (heldRule (setup .identifier) (lengthOf setup)) limits (lawful setup ok) (kept setup ok) (meaning s) (p ∷ []) os rs t
     result = run-result (consumer setup) (verdictOf setup) (isDatagram setup) (heldRule (setup .identifier) (lengthOf setup)) limits (lawful setup ok) (kept setup ok) c (meaning-safe s e)
 

@@ -12,7 +12,7 @@ use Rattle.scan.specs.Carry.{told, carriedAfter}
 use Rattle.search.specs.Search.{verdictOf}
 use Rattle.session.specs.Session.{limits, heldBytes, isSound}
 use Rattle.session.specs.declared.Session.{Session}
-use Rattle.receiver.specs.Feed.{consumer, Whole, meaning, sessionOf}
+use Rattle.receiver.specs.Feed.{consumer, SessionMeaning, meaning, sessionOf}
 use Rattle.receiver.specs.declared.Datagram.{Datagram}
 use Rattle.lines.specs.declared.Received.{Received}
 use Rattle.lines.specs.declared.Received.the-variants.{Lines, Refused}
@@ -41,7 +41,7 @@ unfoldable pub linesIn : Session → List ℕ → List ℕ
 linesIn s p = linesAfter (s .setup) (s .datagrams .0) (answersIn s p)
 
 -- what the session stands for behind the piece
-abbrev pub behind : Session → List ℕ → Whole
+abbrev pub behind : Session → List ℕ → SessionMeaning
 behind s p =
     record {
       scan =

@@ -5,16 +5,16 @@ use mathlib.Core.List.{List}
 use mathlib.Core.Path.{_≡_}
 use lib.ListN.{length, drop}
 use lib.Seq.{sets}
-use Rattle.setup.specs.Setup.{judged, lengthOf}
+use Rattle.setup.specs.Setup.{rulingOn, lengthOf}
 use Rattle.setup.specs.declared.Setup.{Setup}
-use Rattle.setup.specs.declared.Judgement.the-variants.{Accepted}
+use Rattle.setup.specs.declared.Ruling.the-variants.{Accepted}
 use Rattle.scan.specs.Scan.{Scanned, scan}
 use Rattle.scan.specs.Stream.{joined}
 use Rattle.scan.specs.Carry.{steps, tells, told, carriedAfter}
 use Rattle.search.specs.Search.{verdictOf}
 use Rattle.session.specs.Session.{axesRight, isSound}
 use Rattle.session.specs.declared.Session.{Session}
-use Rattle.receiver.specs.Feed.{Kept, consumer, Whole, meaning, sessionOf}
+use Rattle.receiver.specs.Feed.{Kept, consumer, SessionMeaning, meaning, sessionOf}
 use Rattle.lines.specs.Lines.{lineOf, linesAfter}
 use Rattle.lines.specs.declared.Received.the-variants.{Lines}
 use Rattle.lines.specs.declared.Batch.{Batch}
@@ -55,7 +55,7 @@ stopped x n =
     record { datagrams = x .datagrams; passed = x .passed + n; previous = x .previous; axes = x .axes; at = x .at + n; used = x .used }
 
 -- what a session stands for behind n bytes, of which the scan is g
-abbrev pub behindBy : Session → Scanned → ℕ → Whole
+abbrev pub behindBy : Session → Scanned → ℕ → SessionMeaning
 behindBy s g n =
     record {
       scan =
@@ -78,7 +78,7 @@ batchBy s used g n =
 
 -- a piece of `end` bytes can be gone through from there on: its counts stay in range, and its lines find room
 pub record Ready (u : Setup) (x : Progress) (end room : ℕ) : Type 0 where
-  pub accepted : judged u ≡ Accepted
+  pub accepted : rulingOn u ≡ Accepted
   pub within : x .at ≤ end
   pub most : end ≤ 4096
   pub axes : axesRight u (x .datagrams) (x .axes) ≡ true

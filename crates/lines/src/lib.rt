@@ -5,12 +5,11 @@ ghost use mathlib.Core.List.{[], _∷_};
 ghost use Prim.Native.Nat.{_+_, _-_, _^_, _≤_, _<_};
 ghost use lib.ListN.{length};
 ghost use lib.Seq.{sets};
-ghost use Rattle.setup.specs.Setup.{judged};
-ghost use Rattle.setup.specs.declared.Judgement.the-variants.{Accepted};
+ghost use Rattle.setup.specs.Setup.{rulingOn};
+ghost use Rattle.setup.specs.declared.Ruling.the-variants.{Accepted};
 ghost use Rattle.text.specs.TextLine.{lineText, outside};
 ghost use Rattle.text.specs.Putting.{Put};
 ghost use Rattle.search.specs.Search.{isDatagram};
-ghost use Rattle.receiver.specs.Feed.{padded};
 ghost use Rattle.lines.specs.Lines.{lineOf, foundIn, refusing, batchOf, batchBuffer};
 ghost use Rattle.lines.specs.Steps.{keptIn, nextLine, startOf, nextOf, stopped, scanAt, Ready, Through, Made, Let};
 use motion::Axes;
@@ -58,20 +57,6 @@ fn refuse(session: Session, number: u8) -> Batch
     }
 }
 
-// Bytes with zeros behind them, 64 in all.
-fn keep(bytes: &[u8]) -> [u8; 64]
-    requires { ⌜ length (now bytes) ≤ 64 ⌝ }
-    ensures { λ r. ⌜ r ≡ padded 64 (now (bytes .entry)) ⌝ }
-{
-    let mut kept = [0u8; 64];
-    let mut i = 0;
-    while i < bytes.len() {
-        kept[i] = bytes[i];
-        i += 1;
-    }
-    kept
-}
-
 // A line behind those that are written.
 fn put_behind(
     buffer: &mut [u8],
@@ -85,7 +70,7 @@ fn put_behind(
     statuses: [u8; 3],
     totals: Totals,
 ) -> usize
-    requires { ⌜ judged setup ≡ Accepted ⌝ ∗ ⌜ outside ordinal readings totals ≡ false ⌝ ∗ ⌜ used + length (lineText setup ordinal counter latency gap readings statuses totals) ≤ length (now buffer) ⌝ }
+    requires { ⌜ rulingOn setup ≡ Accepted ⌝ ∗ ⌜ outside ordinal readings totals ≡ false ⌝ ∗ ⌜ used + length (lineText setup ordinal counter latency gap readings statuses totals) ≤ length (now buffer) ⌝ }
     ensures { λ r. ⌜ Put (now (buffer .entry)) used (lineText setup ordinal counter latency gap readings statuses totals) (now (buffer .exit)) r ⌝ }
 {
     let written = text::write_line(
@@ -201,7 +186,7 @@ fn lines_of(session: Session, piece: &[u8], at: usize, used: usize, buffer: &mut
     let end = lines_from(setup, start, piece, buffer);
     let place = end.at;
     let last = end.axes;
-    let held = keep(&piece[place..]);
+    let held = session::held_array(&piece[place..]);
     let after = Session {
         setup: setup,
         held: held,
@@ -220,7 +205,7 @@ fn lines_of(session: Session, piece: &[u8], at: usize, used: usize, buffer: &mut
 
 // The line of a datagram that came back, at the front of the buffer.
 fn first_line(setup: Setup, ordinal: u64, datagram: Datagram, buffer: &mut [u8]) -> usize
-    requires { ⌜ judged setup ≡ Accepted ⌝ ∗ ⌜ outside ordinal (datagram .gyro ∷ datagram .accelerometer ∷ datagram .inclinometer ∷ []) (datagram .totals) ≡ false ⌝ ∗ ⌜ length (lineOf setup ordinal datagram) ≤ length (now buffer) ⌝ }
+    requires { ⌜ rulingOn setup ≡ Accepted ⌝ ∗ ⌜ outside ordinal (datagram .gyro ∷ datagram .accelerometer ∷ datagram .inclinometer ∷ []) (datagram .totals) ≡ false ⌝ ∗ ⌜ length (lineOf setup ordinal datagram) ≤ length (now buffer) ⌝ }
     ensures { λ r. ⌜ Put (now (buffer .entry)) 0 (lineOf setup ordinal datagram) (now (buffer .exit)) r ⌝ }
 {
     let gyro = datagram.gyro;

@@ -7,9 +7,9 @@ use borrow.Author.Tests.{ltb-false}
 use lib.Dec.{ltb}
 use lib.ListN.{getD}
 use Rattle.integers.proofs.Ranges.{or-split}
-use Rattle.setup.specs.Setup.{anyAbove, judged}
+use Rattle.setup.specs.Setup.{anyAbove, rulingOn}
 use Rattle.setup.specs.declared.Setup.{Setup}
-use Rattle.setup.specs.declared.Judgement.the-variants.{Accepted}
+use Rattle.setup.specs.declared.Ruling.the-variants.{Accepted}
 use Rattle.setup.proofs.Refusals.{accepted}
 use Rattle.motion.specs.Doubles.{knownShift, knownUnit}
 use Rattle.motion.specs.Gaps.{knownRate}
@@ -23,7 +23,7 @@ none-above limit l e =
     let q = or-split (ltb limit (getD l 0 0)) (ltb limit (getD l 1 0)) (p .0) in
     each (λ n. getD l n 0 ≤ limit) (ltb-false limit (getD l 0 0) (q .0)) (ltb-false limit (getD l 1 0) (q .1)) (ltb-false limit (getD l 2 0) (p .1))
 
-module _ (s : Setup) (a : judged s ≡ Accepted) where
+module _ (s : Setup) (a : rulingOn s ≡ Accepted) where
   pub accepted-rate : knownRate (s .rate) ≡ s .rate
   accepted-rate = rate-known (s .rate) (accepted s a .rate)
 

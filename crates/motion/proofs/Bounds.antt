@@ -2,16 +2,16 @@
 use mathlib.Core.Path.{_≡_, refl, ap, _∙_}
 use mathlib.Core.Bool.{Bool, true, false, _&&_, cond}
 use mathlib.Core.List.{List, [], _∷_}
-use Prim.Native.Nat.{ℕ, suc, _+_, _*_, _^_, _≤_}
+use Prim.Native.Nat.{ℕ, zero, suc, _+_, _*_, _^_, _≤_, _<_}
 use native.Mathlib.Omega.{arith}
 use lib.IntN.{ℤ, natAbs, _-ℤ_}
-use lib.ListN.{length}
+use lib.ListN.{length, take, getD}
 use Rattle.integers.specs.Ranges.{within}
 use Rattle.integers.proofs.Sizes.{abs-add}
 use Rattle.integers.proofs.Ranges.{le-within}
 use Rattle.integers.proofs.Folding.{InRange, abs-of-range, fold-range}
 use Rattle.motion.specs.declared.Axis.{Axis}
-use Rattle.motion.specs.Totals.{Sighting, difference, fitStep, axisStep, keptStep, after}
+use Rattle.motion.specs.Totals.{Sighting, difference, fitStep, axisStep, keptStep, after, none}
 
 -- a difference stays in -8388608 .. 8388607
 pub difference-range : (new old : ℤ) → InRange (difference new old)
@@ -87,18 +87,32 @@ step-within a d h = rw (le-within (2 ^ 53) (a .total) h)
 
 -- ---- over a list of datagrams
 
-unfoldable pub keptAfter : Axis → List Sighting → Axis
-keptAfter a [] = a
-keptAfter a (d ∷ ds) = keptAfter (keptStep true a d) ds
+unfoldable pub keptAfter : Bool → Axis → List Sighting → Axis
+keptAfter kept a [] = a
+keptAfter kept a (d ∷ ds) = keptAfter kept (keptStep kept a d) ds
 
-pub after-within : (a : Axis) (ds : List Sighting) (n : ℕ) → natAbs (a .total) ≤ n * 8388608 → n + length ds ≤ 2 ^ 30 → keptAfter a ds ≡ after a ds
+-- up to a place, and one more
+pub after-next : (kept : Bool) (a : Axis) (ds : List Sighting) (i : ℕ) → i < length ds
+    → keptAfter kept a (take (suc i) ds) ≡ keptStep kept (keptAfter kept a (take i ds)) (getD ds i none)
+unfolding keptAfter
+after-next kept a [] i h = absurd (omega arith)
+after-next kept a (d ∷ ds) zero h = refl
+after-next kept a (d ∷ ds) (suc i) h = after-next kept (keptStep kept a d) ds i (omega arith)
+
+-- an axis that keeps no total
+pub after-not-kept : (a : Axis) (ds : List Sighting) → keptAfter false a ds ≡ a
+unfolding keptAfter
+after-not-kept a [] = refl
+after-not-kept a (d ∷ ds) = after-not-kept (keptStep false a d) ds ∙ step-not-kept a d
+
+pub after-within : (a : Axis) (ds : List Sighting) (n : ℕ) → natAbs (a .total) ≤ n * 8388608 → n + length ds ≤ 2 ^ 30 → keptAfter true a ds ≡ after a ds
 unfolding keptAfter after
 after-within a [] n h k = refl
 after-within a (d ∷ ds) n h k =
-    ap (λ (x : Axis). keptAfter x ds) (step-within a d (total-small n (a .total) (omega arith) h))
+    ap (λ (x : Axis). keptAfter true x ds) (step-within a d (total-small n (a .total) (omega arith) h))
     ∙ after-within (axisStep a d) ds (suc n) (axis-bound a d n h) (omega arith)
 
-pub after-bound : (a : Axis) (ds : List Sighting) (n : ℕ) → natAbs (a .total) ≤ n * 8388608 → natAbs (keptAfter a ds .total) ≤ (n + length ds) * 8388608
+pub after-bound : (kept : Bool) (a : Axis) (ds : List Sighting) (n : ℕ) → natAbs (a .total) ≤ n * 8388608 → natAbs (keptAfter kept a ds .total) ≤ (n + length ds) * 8388608
 unfolding keptAfter
-after-bound a [] n h = omega arith
-after-bound a (d ∷ ds) n h = let k = after-bound (keptStep true a d) ds (suc n) (step-bound true a d n h) in omega arith
+after-bound kept a [] n h = omega arith
+after-bound kept a (d ∷ ds) n h = let k = after-bound kept (keptStep kept a d) ds (suc n) (step-bound kept a d n h) in omega arith

@@ -110,7 +110,7 @@ total-at-each d h a e ds ts f k = at-each d h (getD ts 0 (pos 0)) ds ts a (idle 
 -- the same of the axis as the code steps it, for a total within n datagrams' bound and at most 2 ^ 30 datagrams in all
 pub kept-at-each : (d : ℕ) → 0 < d → (a : Axis) (n : ℕ) → a .begun ≡ false → natAbs (a .total) ≤ n * 8388608 → (ds : List Sighting) (ts : List ℤ) → n + length ds ≤ 2 ^ 30
     → fitReadings ds ≡ map (readingOf d) ts → Close d ts
-    → (i : ℕ) → i < length ds → getD ds i none .fit ≡ true → Stands d (getD ts 0 (pos 0)) (getD ts (fitBefore ds i) (pos 0)) (keptAfter a (take (suc i) ds))
+    → (i : ℕ) → i < length ds → getD ds i none .fit ≡ true → Stands d (getD ts 0 (pos 0)) (getD ts (fitBefore ds i) (pos 0)) (keptAfter true a (take (suc i) ds))
 kept-at-each d h a n e b ds ts m f k i l g =
     subst (λ (x : Axis). Stands d (getD ts 0 (pos 0)) (getD ts (fitBefore ds i) (pos 0)) x)
     (sym (after-within a (take (suc i) ds) n b (omega (arith, length-take (suc i) ds)))) (total-at-each d h a e ds ts f k i l g)

@@ -25,7 +25,7 @@ use receiver::Datagram;
 use receiver::Reply;
 use session::Opened;
 use session::Session;
-use setup::Judgement;
+use setup::Ruling;
 use setup::Setup;
 use text::Written;
 use wire::Fields;
@@ -497,10 +497,10 @@ fn put_refused(out: &mut [u8], at: usize, number: u8) -> usize {
     put_number(out, place, number as u64)
 }
 
-fn put_judgement(out: &mut [u8], at: usize, judgement: Judgement) -> usize {
-    match judgement {
-        Judgement::Accepted => put_text(out, at, b" accepted"),
-        Judgement::Refused(number) => put_refused(out, at, number),
+fn put_ruling(out: &mut [u8], at: usize, ruling: Ruling) -> usize {
+    match ruling {
+        Ruling::Accepted => put_text(out, at, b" accepted"),
+        Ruling::Refused(number) => put_refused(out, at, number),
     }
 }
 
@@ -524,7 +524,7 @@ fn put_written(out: &mut [u8], at: usize, written: Written) -> usize {
 
 fn put_opened(out: &mut [u8], at: usize, opened: Opened) -> usize {
     let answer = opened.answer;
-    let judged = put_judgement(out, at, answer);
+    let judged = put_ruling(out, at, answer);
     let place = put(out, judged, 0x0A);
     put_session(out, place, opened.session)
 }
@@ -542,7 +542,7 @@ fn put_reply(out: &mut [u8], at: usize, reply: Reply) -> usize {
 fn setup_record(out: &mut [u8], at: usize, s: &[u8]) -> usize {
     let setup = setup_of(s);
     let start = put_text(out, at, b" setup");
-    let judged = put_judgement(out, start, setup::judge(setup));
+    let judged = put_ruling(out, start, setup::judge(setup));
     put_opened(out, judged, session::open(setup))
 }
 

@@ -1,6 +1,6 @@
 -- The total of an axis in the answer at a place: its own sightings up to that place alone decide it.
 -- Assumes nothing.
-use Prim.Native.Nat.{ℕ, zero, suc, _+_, _*_, _≤_, _<_, _^_}
+use Prim.Native.Nat.{ℕ, zero, suc, _*_, _≤_, _<_, _^_}
 use mathlib.Core.Path.{_≡_, refl, sym, ap, _∙_}
 use mathlib.Core.Bool.{Bool, true, false, cond}
 use mathlib.Core.List.{List, [], _∷_, map}
@@ -13,7 +13,7 @@ use Rattle.setup.specs.declared.Setup.{Setup}
 use Rattle.wire.specs.Fields.{fieldsOf}
 use Rattle.motion.specs.Totals.{Sighting, keptStep, keeps, axisAt, none, totalOf, totalAt, totalDouble, doubleAt, after}
 use Rattle.motion.specs.declared.Axis.{Axis}
-use Rattle.motion.proofs.Bounds.{keptAfter, step-bound, step-not-kept, after-within}
+use Rattle.motion.proofs.Bounds.{keptAfter, after-next, after-not-kept, after-within, after-bound}
 use Rattle.motion.proofs.NineAxes.{each, step-at, total-at, double-at}
 use Rattle.scan.specs.Carry.{steps, carriedAfter}
 use Rattle.scan.proofs.CarryLaws.{told-at, told-beyond}
@@ -22,43 +22,11 @@ use Rattle.receiver.specs.declared.Datagram.{Datagram}
 use Rattle.receiver.specs.Feed.{Kept, nothingKept, axesAfter, datagramWith, keptNext, tell, consumer, noDatagram}
 use Rattle.receiver.specs.Promises.{answersFor, sighting, sightings, shiftOf}
 
--- ---- an axis over its sightings
-
-pub axisAfter : Bool → Axis → List Sighting → Axis
-axisAfter kept a [] = a
-axisAfter kept a (s ∷ ss) = axisAfter kept (keptStep kept a s) ss
-
-pub after-kept : (a : Axis) (ss : List Sighting) → axisAfter true a ss ≡ keptAfter a ss
-unfolding axisAfter keptAfter
-after-kept a [] = refl
-after-kept a (s ∷ ss) = after-kept (keptStep true a s) ss
-
--- an axis that keeps no total stays as it is
-after-idle : (a : Axis) (ss : List Sighting) → axisAfter false a ss ≡ a
-unfolding axisAfter
-after-idle a [] = refl
-after-idle a (s ∷ ss) = after-idle (keptStep false a s) ss ∙ step-not-kept a s
-
 -- by 01's rule for one axis, up to 2 ^ 30 datagrams
 pub after-ruled :
-    (kept : Bool) (ss : List Sighting) → length ss ≤ 2 ^ 30 → axisAfter kept noAxis ss ≡ cond kept (after noAxis ss) noAxis
-after-ruled true ss h = after-kept noAxis ss ∙ after-within noAxis ss 0 (omega arith) (omega arith)
-after-ruled false ss h = after-idle noAxis ss
-
-after-take :
-    (kept : Bool) (a : Axis) (ss : List Sighting) (i : ℕ) → i < length ss
-    → axisAfter kept a (take (suc i) ss) ≡ keptStep kept (axisAfter kept a (take i ss)) (getD ss i none)
-unfolding axisAfter
-after-take kept a [] i h = absurd (omega arith)
-after-take kept a (s ∷ ss) zero h = refl
-after-take kept a (s ∷ ss) (suc i) h = after-take kept (keptStep kept a s) ss i (omega arith)
-
-pub after-bound :
-    (kept : Bool) (a : Axis) (ss : List Sighting) (n : ℕ) → natAbs (a .total) ≤ n * 8388608
-    → natAbs (axisAfter kept a ss .total) ≤ (n + length ss) * 8388608
-unfolding axisAfter
-after-bound kept a [] n h = omega arith
-after-bound kept a (s ∷ ss) n h = omega (arith, after-bound kept (keptStep kept a s) ss (suc n) (step-bound kept a s n h))
+    (kept : Bool) (ss : List Sighting) → length ss ≤ 2 ^ 30 → keptAfter kept noAxis ss ≡ cond kept (after noAxis ss) noAxis
+after-ruled true ss h = after-within noAxis ss 0 (omega arith) (omega arith)
+after-ruled false ss h = after-not-kept noAxis ss
 
 -- ---- sightings by their place
 
@@ -95,17 +63,17 @@ module _ (u : Setup) (group axis : ℕ) where
     axis-carried :
         (x : Kept) (ds : List (List ℕ))
         → axisAt (carriedAfter (consumer u) x ds .axes) group axis
-        ≡ axisAfter (keeps u group) (axisAt (x .axes) group axis) (sightings u group axis ds)
-    unfolding carriedAfter keptNext axisAfter
+        ≡ keptAfter (keeps u group) (axisAt (x .axes) group axis) (sightings u group axis ds)
+    unfolding carriedAfter keptNext keptAfter
     axis-carried x [] = refl
     axis-carried x (d ∷ ds) =
         axis-carried (steps (consumer u) x d) ds
-        ∙ ap (λ (a : Axis). axisAfter (keeps u group) a (sightings u group axis ds))
+        ∙ ap (λ (a : Axis). keptAfter (keeps u group) a (sightings u group axis ds))
         (step-at u (x .axes) (fieldsOf (u .identifier) d .readings) (fieldsOf (u .identifier) d .statuses) group axis h k)
 
     -- the axis in the answer at a place
     abbrev pub axisThen : List (List ℕ) → ℕ → Axis
-    axisThen ds i = axisAfter (keeps u group) noAxis (take (suc i) (sightings u group axis ds))
+    axisThen ds i = keptAfter (keeps u group) noAxis (take (suc i) (sightings u group axis ds))
 
     module _ (ds : List (List ℕ)) (i : ℕ) (l : i < length ds) where
       before : Kept
@@ -119,10 +87,10 @@ module _ (u : Setup) (group axis : ℕ) where
           step-at u (before .axes) (fieldsOf (u .identifier) d .readings) (fieldsOf (u .identifier) d .statuses) group axis h k
           ∙ ap (λ (a : Axis). keptStep (keeps u group) a (sighting u group axis d))
           (axis-carried nothingKept (take i ds)
-          ∙ ap (λ (a : Axis). axisAfter (keeps u group) a (sightings u group axis (take i ds))) no-axis
-          ∙ ap (axisAfter (keeps u group) noAxis) (sym (take-map (sighting u group axis) ds i)))
-          ∙ ap (keptStep (keeps u group) (axisAfter (keeps u group) noAxis (take i s))) (sym (sighting-at ds i l))
-          ∙ sym (after-take (keeps u group) noAxis s i (omega (arith, sightings-length ds)))
+          ∙ ap (λ (a : Axis). keptAfter (keeps u group) a (sightings u group axis (take i ds))) no-axis
+          ∙ ap (keptAfter (keeps u group) noAxis) (sym (take-map (sighting u group axis) ds i)))
+          ∙ ap (keptStep (keeps u group) (keptAfter (keeps u group) noAxis (take i s))) (sym (sighting-at ds i l))
+          ∙ sym (after-next (keeps u group) noAxis s i (omega (arith, sightings-length ds)))
 
       pub total-then : totalAt (getD (answersFor u ds) i noDatagram .totals) group axis ≡ totalOf (axisThen ds i)
       unfolding tell datagramWith before
@@ -149,17 +117,17 @@ module _ (u : Setup) (group axis : ℕ) where
           )
 
     -- lists that look alike to the axis give the same
-    pub alone :
+    pub independent :
         (ds es : List (List ℕ)) → sightings u group axis ds ≡ sightings u group axis es → (i : ℕ)
         → (totalAt (getD (answersFor u ds) i noDatagram .totals) group axis ≡ totalAt (getD (answersFor u es) i noDatagram .totals) group axis)
         × (doubleAt (getD (answersFor u ds) i noDatagram .doubles) group axis ≡ doubleAt (getD (answersFor u es) i noDatagram .doubles) group axis)
-    alone ds es e i = go (decLt i (length ds))
+    independent ds es e i = go (decLt i (length ds))
       where
         long : length ds ≡ length es
         long = sym (sightings-length ds) ∙ ap length e ∙ sightings-length es
 
         same : axisThen ds i ≡ axisThen es i
-        same = ap (λ (s : List Sighting). axisAfter (keeps u group) noAxis (take (suc i) s)) e
+        same = ap (λ (s : List Sighting). keptAfter (keeps u group) noAxis (take (suc i) s)) e
 
         go :
             Dec (i < length ds)

@@ -12,9 +12,9 @@ use lib.IntN.{ℤ, pos, natAbs, _-ℤ_, _*ℤ_}
 use lib.Seq.{length-take-le}
 use lib.ListN.{length, take, getD, length-map}
 use Rattle.integers.proofs.Folding.{abs-of-range}
-use Rattle.setup.specs.Setup.{judged, lengthOf}
+use Rattle.setup.specs.Setup.{rulingOn, lengthOf}
 use Rattle.setup.specs.declared.Setup.{Setup}
-use Rattle.setup.specs.declared.Judgement.the-variants.{Accepted}
+use Rattle.setup.specs.declared.Ruling.the-variants.{Accepted}
 use Rattle.setup.proofs.Refusals.{accepted-length}
 use Rattle.wire.specs.Fields.{fieldsOf}
 use Rattle.wire.proofs.FieldRanges.{fields-fit}
@@ -23,6 +23,7 @@ use Rattle.motion.specs.Totals as totals
 use Rattle.motion.specs.Totals.{Sighting, keeps, none, totalOf, totalAt, totalDouble, doubleAt, fitReadings, fitBefore, readingOf}
 use Rattle.motion.specs.declared.Total.{Total}
 use Rattle.motion.specs.declared.Values.{Values}
+use Rattle.motion.proofs.Bounds.{keptAfter}
 use Rattle.motion.proofs.AcceptedSetup.{accepted-unit, accepted-shift}
 use Rattle.motion.proofs.Doubles.{reading-exact, total-exact, values-told}
 use Rattle.motion.proofs.NineAxes.{each, values-at}
@@ -44,21 +45,21 @@ use Rattle.session.specs.Session.{limits, noAxis, freshOf, opening, isSound, he
 use Rattle.session.specs.declared.Session.{Session}
 use Rattle.session.specs.declared.Opened.{Opened}
 use Rattle.receiver.specs.declared.Datagram.{Datagram}
-use Rattle.receiver.specs.Feed.{nothingKept, consumer, Whole, sessionOf, tell, datagramWith, noDatagram, Calls}
-use Rattle.receiver.specs.Promises.{streamOf, FedInTurn, answersFor, sighting, sightings, shiftOf, EveryCall, Contained, Exact, Demand2, Stands, Carry, Demand3}
+use Rattle.receiver.specs.Feed.{Kept, nothingKept, consumer, SessionMeaning, sessionOf, tell, datagramWith, noDatagram, Calls}
+use Rattle.receiver.specs.Promises.{streamOf, FedInTurn, answersFor, sighting, sightings, shiftOf, TotalExact, EveryCall, Contained, Exact, Demand2, Stands, Carry, Demand3}
 use Rattle.session.proofs.Opening.{fresh-sound, opened, refused-opening, zeros-unsound}
 use Rattle.receiver.proofs.Meanings.{SafeOf}
 use Rattle.receiver.proofs.Keeping.{kept}
 use Rattle.receiver.proofs.Agreement.{Like, StateRun, run-of-states, run-of-sessions}
 use Rattle.receiver.proofs.EachCall.{not-refused, call-kept, empty-call}
 use Rattle.receiver.proofs.Turns.{fed-unsound, fed-over, fed-past}
-use Rattle.receiver.proofs.Padding.{padded-front}
-use Rattle.receiver.proofs.KeptHistory.{contained-at}
-use Rattle.receiver.proofs.AxisHistory.{axisAfter, after-kept, after-ruled, axisThen, total-then, double-then, then-bound, sighting-at, sightings-length, alone}
+use Rattle.session.proofs.Padding.{padded-front}
+use Rattle.receiver.proofs.KeptHistory.{carried-datagrams, contained-at}
+use Rattle.receiver.proofs.AxisHistory.{after-ruled, axisThen, total-then, double-then, then-bound, sighting-at, sightings-length, independent}
 
-module _ (u : Setup) (ok : judged u ≡ Accepted) where
+module _ (u : Setup) (ok : rulingOn u ≡ Accepted) where
   -- the session that opening gives is that of the fresh state
-  freshState : Whole
+  freshState : SessionMeaning
   freshState = record { scan = calls.fresh; carried = nothingKept }
 
   opens : opening u .session ≡ sessionOf u freshState
@@ -70,10 +71,10 @@ module _ (u : Setup) (ok : judged u ≡ Accepted) where
   fresh-state-safe = fresh-safe (consumer u) (verdictOf u) (isDatagram u) (heldRule (u .identifier) (lengthOf u)) limits (lawful u ok) (kept u ok)
 
   module _ {ps : List (List ℕ)} {os : List Datagram} {rs : List Report} {t : Session} (c : FedInTurn u ps os rs t) where
-    state-run : (t′ : Whole) × Like u ok t′ t × StateRun u ok freshState ps os rs t′
+    state-run : (t′ : SessionMeaning) × Like u ok t′ t × StateRun u ok freshState ps os rs t′
     state-run = run-of-sessions u ok (subst (λ (s : Session). Calls s ps os rs t) opens c) fresh-state-safe
 
-    end-state : Whole
+    end-state : SessionMeaning
     end-state = state-run .0
 
     delivered : Delivered (consumer u) (verdictOf u) (isDatagram u) (heldRule (u .identifier) (lengthOf u)) limits ps os rs end-state
@@ -142,9 +143,7 @@ module _ (u : Setup) (ok : judged u ≡ Accepted) where
       double-in : doubleAt (getD os i noDatagram .doubles) group axis ≡ totalDouble (axisThen u group axis h k es i) (shiftOf u group)
       double-in = ap (λ (o : Datagram). doubleAt (o .doubles) group axis) answer ∙ double-then u group axis h k es i l
 
-      total-value :
-          HasValue (doubleAt (getD os i noDatagram .doubles) group axis) (negative (totalAt (getD os i noDatagram .totals) group axis .steps))
-          (natAbs (totalAt (getD os i noDatagram .totals) group axis .steps)) (2 ^ shiftOf u group)
+      total-value : TotalExact u group axis (getD os i noDatagram)
       total-value =
           subst (λ (x : Float). HasValue x (negative (totalAt (getD os i noDatagram .totals) group axis .steps)) (natAbs (totalAt (getD os i noDatagram .totals) group axis .steps)) (2 ^ shiftOf u group)) (sym double-in)
           (subst (λ (z : ℤ). HasValue (totalDouble (axisThen u group axis h k es i) (shiftOf u group)) (negative z) (natAbs z) (2 ^ shiftOf u group))
@@ -227,7 +226,7 @@ module _ (u : Setup) (ok : judged u ≡ Accepted) where
         unfolding ss
         stands =
             subst (totals.Stands fine (getD ts 0 (pos 0)) (getD ts (fitBefore ss i) (pos 0)))
-            (sym (ap (λ (b : Bool). axisAfter b noAxis (take (suc i) ss)) keep ∙ after-kept noAxis (take (suc i) ss)))
+            (sym (ap (λ (b : Bool). keptAfter b noAxis (take (suc i) ss)) keep))
             (kept-at-each fine some noAxis 0 refl (omega arith) ss ts (omega (arith, few es a, sightings-length u group axis es)) (C .carried) (C .close)
             i there fit-there)
 
@@ -300,6 +299,20 @@ module _ (u : Setup) (ok : judged u ≡ Accepted) where
         all-carried = all-carried-at;
       }
 
+  -- the session counts the datagrams handed out
+  counted :
+      {ps : List (List ℕ)} {os : List Datagram} {rs : List Report} {t : Session} → FedInTurn u ps os rs t → t .datagrams .0 ≡ length os
+  counted c =
+      let es = delivered c .datagrams in
+      omega (
+        arith,
+        ap (λ (s : Session). s .datagrams .0) (is-session c),
+        ap (λ (x : Kept). x .datagrams) (delivered c .carried),
+        carried-datagrams u nothingKept es,
+        ap length (delivered c .handed-out),
+        length-told (consumer u) nothingKept es,
+      )
+
   -- what was passed over and is held are those of the scan of the stream
   scanned :
       {ps : List (List ℕ)} {os : List Datagram} {rs : List Report} {t : Session} → FedInTurn u ps os rs t
@@ -326,8 +339,8 @@ module _ (u : Setup) (ok : judged u ≡ Accepted) where
         contained =
             λ c es a i l. subst (Contained u es i) (sym (ap (λ (os : List Datagram). getD os i noDatagram) (answers c es a))) (contained-at u ok es i l);
         exact = λ c es a i l group axis h k. exact-at c es a i l group axis h k;
-        alone = λ group axis h k ds es e i. alone u group axis h k ds es e i;
-        bytes = λ c. (fed-stream c, bytes-sum c, scanned c .0, scanned c .1);
+        independent = λ group axis h k ds es e i. independent u group axis h k ds es e i;
+        bytes = λ c. (fed-stream c, bytes-sum c, counted c, scanned c .0, scanned c .1);
       }
 
 -- Every call, on any session and any piece

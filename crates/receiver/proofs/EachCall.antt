@@ -7,9 +7,9 @@ use mathlib.Core.List.{List, []}
 use native.Mathlib.Nat.{add-zero}
 use native.Mathlib.Omega.{arith}
 use lib.ListN.{length}
-use Rattle.setup.specs.Setup.{judged, lengthOf}
+use Rattle.setup.specs.Setup.{rulingOn, lengthOf}
 use Rattle.setup.specs.declared.Setup.{Setup}
-use Rattle.setup.specs.declared.Judgement.the-variants.{Accepted}
+use Rattle.setup.specs.declared.Ruling.the-variants.{Accepted}
 use Rattle.scan.specs.Calls as calls
 use Rattle.scan.specs.Calls.{State, Fed}
 use Rattle.scan.specs.Front.{heldRule}
@@ -24,7 +24,7 @@ use Rattle.session.specs.declared.Session.{Session}
 use Rattle.receiver.specs.declared.Datagram.{Datagram}
 use Rattle.receiver.specs.declared.Answer.the-variants.{Waiting, Refused}
 use Rattle.receiver.specs.declared.Reply.{Reply}
-use Rattle.receiver.specs.Feed.{consumer, noDatagram, Whole, meaning, replyBy, replyOf, feedOf}
+use Rattle.receiver.specs.Feed.{consumer, noDatagram, SessionMeaning, meaning, replyBy, replyOf, feedOf}
 use Rattle.receiver.specs.Promises.{CallKept}
 use Rattle.session.proofs.Soundness.{sound-facts}
 use Rattle.receiver.proofs.Meanings.{meaning-safe, session-sound, session-meaning}
@@ -34,7 +34,7 @@ use Rattle.receiver.proofs.Agreement.{stateCall, on-meaning, call-safe}
 -- ---- a call that is neither refused by 10 nor by 11 nor by 12
 
 -- a reply tells of a refusal only where the call was refused
-refused-by : (s : Session) {n : ℕ} (a : calls.Answer Datagram) (k : ℕ) (t : Whole) → replyBy s a k t .answer ≡ Refused n → a ≡ calls.Answer.refused n
+refused-by : (s : Session) {n : ℕ} (a : calls.Answer Datagram) (k : ℕ) (t : SessionMeaning) → replyBy s a k t .answer ≡ Refused n → a ≡ calls.Answer.refused n
 refused-by s (calls.Answer.datagram o) k t e = absurd (let z : _≡_ {A = ℕ} 0 1 = cc in omega arith)
 refused-by s calls.Answer.waiting k t e = absurd (let z : _≡_ {A = ℕ} 0 1 = cc in omega arith)
 refused-by s {n} (calls.Answer.refused m) k t e = let z : m ≡ n = cc in ap calls.Answer.refused z
@@ -53,11 +53,11 @@ not-refused s p e h k n q =
 -- ---- a call on a session that 10 doesn't turn down
 
 module _ (s : Session) (e : isSound s ≡ true) where
-  ok : judged (s .setup) ≡ Accepted
+  ok : rulingOn (s .setup) ≡ Accepted
   ok = sound-facts s e .accepted
 
   module _ (p : List ℕ) where
-    made : Fed Whole Datagram
+    made : Fed SessionMeaning Datagram
     made = stateCall (s .setup) (meaning s) p
 
     grown-by : made .next .scan .fed ≡ s .fed + made .taken

@@ -5,9 +5,9 @@ use mathlib.Core.List.{List, _++_, append-assoc}
 use native.Mathlib.Omega.{arith}
 use lib.ListN.{length, take, drop, length-append, length-drop, take-append-drop}
 use lib.Seq.{drop-append-add, drop-append-le, length-take-le}
-use Rattle.setup.specs.Setup.{judged, lengthOf}
+use Rattle.setup.specs.Setup.{rulingOn, lengthOf}
 use Rattle.setup.specs.declared.Setup.{Setup}
-use Rattle.setup.specs.declared.Judgement.the-variants.{Accepted}
+use Rattle.setup.specs.declared.Ruling.the-variants.{Accepted}
 use Rattle.scan.specs.Scan.{First, finds, later, first, Stable}
 use Rattle.scan.proofs.AmongLaws.{follows-stable}
 use Rattle.scan.proofs.ScanLaws.{first-append, onward}
@@ -15,7 +15,7 @@ use Rattle.search.specs.Search.{verdictOf, isDatagram}
 use Rattle.search.proofs.Datagrams.{lawful}
 use Rattle.search.proofs.Places.{IsWhole, IsOpen}
 
-module _ (u : Setup) (a : judged u ≡ Accepted) (h p : List ℕ) (m : ℕ) (at : ℕ) where
+module _ (u : Setup) (a : rulingOn u ≡ Accepted) (h p : List ℕ) (m : ℕ) (at : ℕ) where
   stable : Stable (verdictOf u)
   stable = follows-stable (verdictOf u) (isDatagram u) (lawful u a .follows)
 

@@ -8,9 +8,9 @@ use native.Mathlib.Nat.{mul-add, mul-one, mul-zero}
 use native.Mathlib.Numerals.{add-one}
 use native.Mathlib.Omega.{arith}
 use lib.ListN.{length}
-use Rattle.setup.specs.Setup.{judged, lengthOf}
+use Rattle.setup.specs.Setup.{rulingOn, lengthOf}
 use Rattle.setup.specs.declared.Setup.{Setup}
-use Rattle.setup.specs.declared.Judgement.the-variants.{Accepted}
+use Rattle.setup.specs.declared.Ruling.the-variants.{Accepted}
 use Rattle.wire.specs.Fields.{fieldsOf}
 use Rattle.wire.proofs.FieldRanges.{fields-fit}
 use Rattle.scan.specs.Carry.{Keeps}
@@ -22,7 +22,7 @@ use Rattle.search.proofs.ByteLists.{datagram-parts}
 use Rattle.search.proofs.Datagrams.{shaped}
 use Rattle.receiver.proofs.Meanings.{kept-parts, parts-kept}
 
-module _ (u : Setup) (ok : judged u ≡ Accepted) where
+module _ (u : Setup) (ok : rulingOn u ≡ Accepted) where
   start-right : keptRight u 0 nothingKept ≡ true
   start-right = parts-kept u 0 nothingKept (omega (arith, mul-zero (lengthOf u))) (none-right u)
 

@@ -8,9 +8,9 @@ use native.Mathlib.Omega.{arith}
 use lib.Dec.{eqb}
 use lib.ListN.{length, take, getD}
 use lib.Seq.{length-take-le}
-use Rattle.setup.specs.Setup.{judged}
+use Rattle.setup.specs.Setup.{rulingOn}
 use Rattle.setup.specs.declared.Setup.{Setup}
-use Rattle.setup.specs.declared.Judgement.the-variants.{Accepted}
+use Rattle.setup.specs.declared.Ruling.the-variants.{Accepted}
 use Rattle.wire.specs.Fields.{Contents, fieldsOf}
 use Rattle.motion.specs.Gaps.{gapAt}
 use Rattle.motion.proofs.AcceptedSetup.{accepted-rate}
@@ -24,7 +24,7 @@ pred-suc n = omega arith
 
 module _ (u : Setup) where
   -- how many datagrams were handed out
-  carried-datagrams : (x : Kept) (ds : List (List ℕ)) → carriedAfter (consumer u) x ds .datagrams ≡ x .datagrams + length ds
+  pub carried-datagrams : (x : Kept) (ds : List (List ℕ)) → carriedAfter (consumer u) x ds .datagrams ≡ x .datagrams + length ds
   unfolding carriedAfter keptNext
   carried-datagrams x [] = omega arith
   carried-datagrams x (d ∷ ds) = omega (arith, carried-datagrams (steps (consumer u) x d) ds)
@@ -38,7 +38,7 @@ module _ (u : Setup) where
   carried-previous x (d ∷ ds) zero h = refl
   carried-previous x (d ∷ ds) (suc i) h = carried-previous (steps (consumer u) x d) ds i (omega arith)
 
-  module _ (ok : judged u ≡ Accepted) (es : List (List ℕ)) (i : ℕ) (l : i < length es) where
+  module _ (ok : rulingOn u ≡ Accepted) (es : List (List ℕ)) (i : ℕ) (l : i < length es) where
     abbrev before : Kept
     before = carriedAfter (consumer u) nothingKept (take i es)
 

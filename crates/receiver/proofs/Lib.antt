@@ -1,5 +1,4 @@
 -- Laws of feeding, and the proofs of the demands.
-pub mod Padding
 pub mod Joining
 pub mod Meanings
 pub mod Turns

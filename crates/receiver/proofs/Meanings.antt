@@ -10,20 +10,20 @@ use lib.Dec.{eqb}
 use lib.ListN.{length, drop, replicate, length-append, length-drop, take-append-drop}
 use lib.Seq.{length-take-le}
 use Rattle.integers.proofs.Ranges.{and-split}
-use Rattle.setup.specs.Setup.{judged, lengthOf}
+use Rattle.setup.specs.Setup.{rulingOn, lengthOf}
 use Rattle.setup.specs.declared.Setup.{Setup}
-use Rattle.setup.specs.declared.Judgement.the-variants.{Accepted}
+use Rattle.setup.specs.declared.Ruling.the-variants.{Accepted}
 use Rattle.scan.specs.Front.{heldRule}
 use Rattle.scan.proofs.CallsLaws.{and-true}
 use Rattle.scan.proofs.RunLaws.{Safe}
-use Rattle.session.specs.Session.{limits, heldBytes, allZero, axesRight, isSound}
+use Rattle.session.specs.Session.{limits, heldBytes, allZero, axesRight, isSound, padded}
 use Rattle.session.specs.declared.Session.{Session}
-use Rattle.receiver.proofs.Padding.{padded-front, padded-rest}
-use Rattle.receiver.specs.Feed.{Kept, keptRight, consumer, Whole, meaning, padded, sessionOf}
+use Rattle.session.proofs.Padding.{padded-front, padded-rest}
+use Rattle.receiver.specs.Feed.{Kept, keptRight, consumer, SessionMeaning, meaning, sessionOf}
 use Rattle.session.proofs.Soundness.{Facts, sound-facts, facts-sound}
 
 -- what is asked of a session of a setup
-abbrev pub SafeOf : Setup → Whole → Type 0
+abbrev pub SafeOf : Setup → SessionMeaning → Type 0
 SafeOf u t = Safe (consumer u) (heldRule (u .identifier) (lengthOf u)) limits t
 
 -- ---- what refusal 10 asks of what is kept, by parts
@@ -69,7 +69,7 @@ zero-zeros (b ∷ l) e =
     let z : b ≡ 0 = eqb-true b 0 (p .0) in
     rw z (ap (λ (k : List ℕ). 0 ∷ k) (zero-zeros l (p .1)))
 
-module _ (u : Setup) (ok : judged u ≡ Accepted) (t : Whole) (Z : SafeOf u t) where
+module _ (u : Setup) (ok : rulingOn u ≡ Accepted) (t : SessionMeaning) (Z : SafeOf u t) where
   -- the session of such a one stands for it
   pub meaning-of : meaning (sessionOf u t) ≡ t
   meaning-of =

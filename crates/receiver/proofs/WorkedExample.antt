@@ -12,9 +12,9 @@ use Rattle.integers.specs.Bytes.{bigEndian, twosComplement, signedBytes}
 use Rattle.integers.specs.Folding.{fold}
 use Rattle.crc.specs.Check.{stim300, shift, shifts, byteStep, register, padding, padded, checkOf, check32}
 use Rattle.setup.specs.Layout.{partsAt, layoutOf, groupsCarried}
-use Rattle.setup.specs.Setup.{setupRules, judged, lengthOf}
+use Rattle.setup.specs.Setup.{setupRules, rulingOn, lengthOf}
 use Rattle.setup.specs.declared.Setup.{Setup}
-use Rattle.setup.specs.declared.Judgement.the-variants.{Accepted}
+use Rattle.setup.specs.declared.Ruling.the-variants.{Accepted}
 use Rattle.wire.specs.Acceptable.{checkRight, endingRight, acceptable}
 use Rattle.wire.specs.Fields.{partsWithin, fieldsOfPart, fieldsOf}
 use Rattle.motion.specs.Status.{unfit}
@@ -39,8 +39,8 @@ use Rattle.receiver.proofs.Demands.{demand3}
 abbrev example : Setup
 example = record { rate = 1000; identifier = 0x90; termination = 0; units = 3 ∷ 0 ∷ 0 ∷ []; shifts = 21 ∷ 0 ∷ 0 ∷ [] }
 
-accepted-example : judged example ≡ Accepted
-unfolding judged setupRules layoutOf partsAt groupsCarried
+accepted-example : rulingOn example ≡ Accepted
+unfolding rulingOn setupRules layoutOf partsAt groupsCarried
 accepted-example = refl
 
 -- gyro X 8388600, counter 8; X 12345 with bits 3 and 0 of the status set, so that X is unfit, counter 10; X -8388600, counter 14

@@ -1,10 +1,10 @@
 -- 01, The scan; Status, doubles, gaps; Totals; What is turned down, 10 to 12: what a call of feed answers.
-use Prim.Native.Nat.{ℕ, _+_, _-_, _*_}
+use Prim.Native.Nat.{ℕ, _+_, _*_}
 use mathlib.Core.Bool.{Bool, _&&_}
-use mathlib.Core.List.{List, [], _∷_, _++_, map}
+use mathlib.Core.List.{List, [], _∷_, map}
 use lib.Dec.{eqb}
 use lib.IntN.{ℤ, pos}
-use lib.ListN.{length, getD, replicate}
+use lib.ListN.{length, getD}
 use Rattle.setup.specs.Setup.{lengthOf}
 use Rattle.setup.specs.declared.Setup.{Setup}
 use Rattle.wire.specs.Fields.{Contents, fieldsOf, besidesReadings}
@@ -23,7 +23,7 @@ use Rattle.scan.specs.Calls.{Fed, Report, Run}
 use Rattle.scan.specs.Carry as carry
 use Rattle.scan.specs.Carry.{Consumer, carrying}
 use Rattle.search.specs.Search.{verdictOf}
-use Rattle.session.specs.Session.{noAxes, limits, heldBytes, axesRight, isSound}
+use Rattle.session.specs.Session.{noAxes, limits, heldBytes, axesRight, isSound, padded}
 use Rattle.session.specs.declared.Session.{Session}
 use Rattle.receiver.specs.declared.Datagram.{Datagram}
 use Rattle.receiver.specs.declared.Answer.{Answer}
@@ -135,10 +135,10 @@ noDatagram =
 
 -- ---- a session and what it stands for: the scan's bytes and counts, and what is kept beside them
 
-abbrev pub Whole : Type 0
-Whole = carry.Session Kept
+abbrev pub SessionMeaning : Type 0
+SessionMeaning = carry.Session Kept
 
-abbrev pub meaning : Session → Whole
+abbrev pub meaning : Session → SessionMeaning
 meaning s =
     record {
       scan =
@@ -146,12 +146,8 @@ meaning s =
       carried = record { datagrams = s .datagrams .0; previous = s .previous; axes = s .axes };
     }
 
--- bytes with zeros behind them, n in all
-abbrev pub padded : ℕ → List ℕ → List ℕ
-padded n l = l ++ replicate (n - length l) 0
-
 -- and back
-abbrev pub sessionOf : Setup → Whole → Session
+abbrev pub sessionOf : Setup → SessionMeaning → Session
 sessionOf u t =
     record {
       setup = u;
@@ -167,12 +163,12 @@ sessionOf u t =
 -- ---- a call
 
 -- what is told: a refusal takes no bytes and returns the session as given
-abbrev pub replyBy : Session → calls.Answer Datagram → ℕ → Whole → Reply
+abbrev pub replyBy : Session → calls.Answer Datagram → ℕ → SessionMeaning → Reply
 replyBy s (calls.Answer.datagram o) k t = record { answer = HandedOut; taken = k; session = sessionOf (s .setup) t; datagram = o }
 replyBy s calls.Answer.waiting k t = record { answer = Waiting; taken = k; session = sessionOf (s .setup) t; datagram = noDatagram }
 replyBy s (calls.Answer.refused n) k t = record { answer = Refused n; taken = 0; session = s; datagram = noDatagram }
 
-abbrev pub replyOf : Session → Fed Whole Datagram → Reply
+abbrev pub replyOf : Session → Fed SessionMeaning Datagram → Reply
 replyOf s c = replyBy s (c .answer) (c .taken) (c .next)
 
 -- A call of feed: refused by 10, 11 or 12, or made on the scan's bytes and counts, with what is kept beside them

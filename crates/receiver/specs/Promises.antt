@@ -9,10 +9,10 @@ use lib.IntN.{ℤ, pos, natAbs, _-ℤ_, _*ℤ_}
 use lib.Ieee.Exact.{HasValue}
 use lib.ListN.{length, take, getD}
 use Rattle.integers.specs.Rounding.{floor}
-use Rattle.setup.specs.Setup.{judged, lengthOf}
+use Rattle.setup.specs.Setup.{rulingOn, lengthOf}
 use Rattle.setup.specs.declared.Setup.{Setup}
-use Rattle.setup.specs.declared.Judgement as judgement
-use Rattle.setup.specs.declared.Judgement.the-variants.{Accepted}
+use Rattle.setup.specs.declared.Ruling as ruling
+use Rattle.setup.specs.declared.Ruling.the-variants.{Accepted}
 use Rattle.wire.specs.Fields.{fieldsOf, besidesReadings}
 use Rattle.motion.specs.Status.{flagged}
 use Rattle.motion.specs.Gaps.{gapAt}
@@ -56,6 +56,20 @@ module _ (u : Setup) where
   abbrev pub shiftOf : ℕ → ℕ
   shiftOf group = getD (u .shifts) group 0
 
+-- a list of pieces can be fed in turn
+abbrev pub CanBeFed : Setup → List (List ℕ) → Type 0
+CanBeFed u ps = (os : List Datagram) × (rs : List Report) × (t : Session) × FedInTurn u ps os rs t
+
+-- whatever datagrams among bytes at which none begins the stream is, these are handed out, in order, each with what the rules give for it
+abbrev pub HandsOut : Setup → List (List ℕ) → List Datagram → Type 0
+HandsOut u ps os = (es : List (List ℕ)) → Among (isDatagram u) (streamOf ps) es → os ≡ answersFor u es
+
+-- in the answer o the double of an axis is its total over 2 ^ shift, without any rounding
+abbrev pub TotalExact : Setup → ℕ → ℕ → Datagram → Type 0
+TotalExact u group axis o =
+    HasValue (doubleAt (o .doubles) group axis) (negative (totalAt (o .totals) group axis .steps)) (natAbs (totalAt (o .totals) group axis .steps))
+    (2 ^ shiftOf u group)
+
 -- ---- demand 2
 
 -- a refused call
@@ -77,7 +91,7 @@ pub record CallKept (s : Session) (p : List ℕ) : Type 0 where
 pub record EveryCall : Type 0 where
   -- no session that a call returns is turned down by 10, if the one that it was given isn't
   pub kept : (s : Session) → isSound s ≡ true → (p : List ℕ) → CallKept s p
-  -- a piece of 0 bytes is taken and hands out nothing
+  -- a piece of 0 bytes is taken and hands out nothing (the array of held bytes has 64, as in every session value)
   pub none-taken :
       (s : Session) → isSound s ≡ true → length (s .held) ≡ 64
       → feedOf s [] ≡ record { answer = Waiting; taken = 0; session = s; datagram = noDatagram }
@@ -90,7 +104,7 @@ pub record EveryCall : Type 0 where
       → (n : ℕ) → feedOf s p .answer ≡ Refused n → ⊥
   -- what a refused opening gives back is turned down by 10
   pub refused-opening :
-      (u : Setup) {n : ℕ} → judged u ≡ judgement.the-variants.Refused n → (p : List ℕ) → feedOf (opening u .session) p ≡ refusal (opening u .session) 10
+      (u : Setup) {n : ℕ} → rulingOn u ≡ ruling.the-variants.Refused n → (p : List ℕ) → feedOf (opening u .session) p ≡ refusal (opening u .session) 10
 
 -- what comes back with the datagram at a place of es, in the answer o: its fields, and the gap to the datagram before it
 pub record Contained (u : Setup) (es : List (List ℕ)) (i : ℕ) (o : Datagram) : Type 0 where
@@ -110,23 +124,19 @@ pub record Exact (u : Setup) (es : List (List ℕ)) (i : ℕ) (o : Datagram) (gr
   pub total :
       totalAt (o .totals) group axis
       ≡ totalOf (cond (keeps u group) (after noAxis (take (suc i) (sightings u group axis es))) noAxis)
-  pub double :
-      HasValue (doubleAt (o .doubles) group axis) (negative (totalAt (o .totals) group axis .steps))
-      (natAbs (totalAt (o .totals) group axis .steps)) (2 ^ shiftOf u group)
+  pub double : TotalExact u group axis o
 
 pub record Demand2 (u : Setup) : Type 0 where
   -- the session that opening gives isn't turned down by 10, and every list of pieces can be fed to it in turn
   pub opened : isSound (opening u .session) ≡ true
-  pub fed :
-      (ps : List (List ℕ)) → (os : List Datagram) × (rs : List Report) × (t : Session) × FedInTurn u ps os rs t
+  pub fed : (ps : List (List ℕ)) → CanBeFed u ps
   -- every stream is acceptable datagrams, whole and in order, among bytes at which none begins, in one way only
   pub parted :
       (v : List ℕ)
       → (es : List (List ℕ)) × Among (isDatagram u) v es × ((ds : List (List ℕ)) → Among (isDatagram u) v ds → ds ≡ es)
-  -- these are handed out, no more and no fewer, each with what the rules give for it
+  -- these are handed out, no more and no fewer
   pub handed-out :
-      {ps : List (List ℕ)} {os : List Datagram} {rs : List Report} {t : Session} → FedInTurn u ps os rs t
-      → (es : List (List ℕ)) → Among (isDatagram u) (streamOf ps) es → os ≡ answersFor u es
+      {ps : List (List ℕ)} {os : List Datagram} {rs : List Report} {t : Session} → FedInTurn u ps os rs t → HandsOut u ps os
   -- its own fields, the gap to the one before it, its totals, and exact doubles
   pub contained :
       {ps : List (List ℕ)} {os : List Datagram} {rs : List Report} {t : Session} → FedInTurn u ps os rs t
@@ -137,40 +147,38 @@ pub record Demand2 (u : Setup) : Type 0 where
       → (i : ℕ) → i < length es → (group axis : ℕ) → group < 3 → axis < 3
       → Exact u es i (getD os i noDatagram) group axis
   -- a total depends only on its own axis's readings, its group's status bytes and which datagrams were handed out
-  pub alone :
+  pub independent :
       (group axis : ℕ) → group < 3 → axis < 3
       → (ds es : List (List ℕ)) → sightings u group axis ds ≡ sightings u group axis es → (i : ℕ)
       → (totalAt (getD (answersFor u ds) i noDatagram .totals) group axis ≡ totalAt (getD (answersFor u es) i noDatagram .totals) group axis)
       × (doubleAt (getD (answersFor u ds) i noDatagram .doubles) group axis ≡ doubleAt (getD (answersFor u es) i noDatagram .doubles) group axis)
-  -- bytes fed are the stream's, and = datagram length × datagrams + bytes passed over + bytes held; passed over and held are those of 01's scan
+  -- bytes fed are the stream's, and = datagram length × datagrams + bytes passed over + bytes held; the session counts the datagrams handed out,
+  -- and passed over and held are those of 01's scan
   pub bytes :
       {ps : List (List ℕ)} {os : List Datagram} {rs : List Report} {t : Session} → FedInTurn u ps os rs t
-      → (t .fed ≡ length (streamOf ps)) × (lengthOf u * length os + t .passed + t .count ≡ t .fed)
+      → (t .fed ≡ length (streamOf ps)) × (lengthOf u * length os + t .passed + t .count ≡ t .fed) × (t .datagrams .0 ≡ length os)
       × (t .passed ≡ scan (verdictOf u) (streamOf ps) .passed) × (heldBytes t ≡ scan (verdictOf u) (streamOf ps) .held)
 
 -- ---- demand 3
 
--- in the answer o an axis stands for the change from the true value t₀ to t, d fine units to one output step:
--- its total is t / d rounded down minus t₀ / d rounded down, times d it differs from t - t₀ by less than d, its double is the total over 2 ^ shift
-pub record Stands (u : Setup) (group axis d : ℕ) (t₀ t : ℤ) (o : Datagram) : Type 0 where
+-- in the answer o an axis stands for the change from the true value t₀ to t, with so many fine units to one output step:
+-- its total is t / fine rounded down minus t₀ / fine rounded down, times fine it differs from t - t₀ by less than fine, its double is the total over 2 ^ shift
+pub record Stands (u : Setup) (group axis fine : ℕ) (t₀ t : ℤ) (o : Datagram) : Type 0 where
   pub begun : totalAt (o .totals) group axis .begun ≡ true
-  pub exact : totalAt (o .totals) group axis .steps ≡ floor t d -ℤ floor t₀ d
-  pub near : natAbs (totalAt (o .totals) group axis .steps *ℤ pos d -ℤ (t -ℤ t₀)) < d
-  pub double :
-      HasValue (doubleAt (o .doubles) group axis) (negative (totalAt (o .totals) group axis .steps))
-      (natAbs (totalAt (o .totals) group axis .steps)) (2 ^ shiftOf u group)
+  pub exact : totalAt (o .totals) group axis .steps ≡ floor t fine -ℤ floor t₀ fine
+  pub near : natAbs (totalAt (o .totals) group axis .steps *ℤ pos fine -ℤ (t -ℤ t₀)) < fine
+  pub double : TotalExact u group axis o
 
--- Among these datagrams the fit ones carry, in order, the true values ts over d rounded down and folded, neighbours of which differ by less than (2 ^ 23 - 1) × d
-pub record Carry (d : ℕ) (ss : List Sighting) (ts : List ℤ) : Type 0 where
-  pub carried : fitReadings ss ≡ map (readingOf d) ts
-  pub close : Close d ts
+-- Among these datagrams the fit ones carry, in order, the true values ts over fine rounded down and folded, neighbours of which differ by less than (2 ^ 23 - 1) × fine
+pub record Carry (fine : ℕ) (ss : List Sighting) (ts : List ℤ) : Type 0 where
+  pub carried : fitReadings ss ≡ map (readingOf fine) ts
+  pub close : Close fine ts
 
 pub record Demand3 (u : Setup) : Type 0 where
   -- opening answers without refusal
   pub opened : opening u .answer ≡ Accepted
   -- every list of pieces can be fed in turn, and in one way only
-  pub fed :
-      (ps : List (List ℕ)) → (os : List Datagram) × (rs : List Report) × (t : Session) × FedInTurn u ps os rs t
+  pub fed : (ps : List (List ℕ)) → CanBeFed u ps
   pub once :
       {ps : List (List ℕ)} {os os′ : List Datagram} {rs rs′ : List Report} {t t′ : Session}
       → FedInTurn u ps os rs t → FedInTurn u ps os′ rs′ t′ → (os ≡ os′) × (rs ≡ rs′) × (t ≡ t′)
@@ -182,19 +190,18 @@ pub record Demand3 (u : Setup) : Type 0 where
   pub streams : (v : List ℕ) → length v ≤ 2 ^ 34 → (ps : List (List ℕ)) × (streamOf ps ≡ v)
   -- exactly the stream's datagrams are handed out, in order
   pub handed-out :
-      {ps : List (List ℕ)} {os : List Datagram} {rs : List Report} {t : Session} → FedInTurn u ps os rs t
-      → (es : List (List ℕ)) → Among (isDatagram u) (streamOf ps) es → os ≡ answersFor u es
+      {ps : List (List ℕ)} {os : List Datagram} {rs : List Report} {t : Session} → FedInTurn u ps os rs t → HandsOut u ps os
   -- at each of them that is fit for an axis that keeps a total, the answer stands for the change from the first true value to the one that it carries
   pub change :
       {ps : List (List ℕ)} {os : List Datagram} {rs : List Report} {t : Session} → FedInTurn u ps os rs t
       → (es : List (List ℕ)) → Among (isDatagram u) (streamOf ps) es
       → (group axis : ℕ) → group < 3 → axis < 3 → keeps u group ≡ true
-      → (d : ℕ) → 0 < d → (ts : List ℤ) → Carry d (sightings u group axis es) ts
+      → (fine : ℕ) → 0 < fine → (ts : List ℤ) → Carry fine (sightings u group axis es) ts
       → (i : ℕ) → i < length es → sighting u group axis (getD es i []) .fit ≡ true
       → (k : ℕ) × (k ≡ fitBefore (sightings u group axis es) i) × (k < length ts)
-      × (sighting u group axis (getD es i []) .reading ≡ readingOf d (getD ts k (pos 0)))
-      × Stands u group axis d (getD ts 0 (pos 0)) (getD ts k (pos 0)) (getD os i noDatagram)
+      × (sighting u group axis (getD es i []) .reading ≡ readingOf fine (getD ts k (pos 0)))
+      × Stands u group axis fine (getD ts 0 (pos 0)) (getD ts k (pos 0)) (getD os i noDatagram)
   -- and each of the true values is carried by one of them
   pub all-carried :
-      (es : List (List ℕ)) (group axis d : ℕ) (ts : List ℤ) → Carry d (sightings u group axis es) ts → (k : ℕ) → k < length ts
+      (es : List (List ℕ)) (group axis fine : ℕ) (ts : List ℤ) → Carry fine (sightings u group axis es) ts → (k : ℕ) → k < length ts
       → (i : ℕ) × (i < length es) × (sighting u group axis (getD es i []) .fit ≡ true) × (fitBefore (sightings u group axis es) i ≡ k)

@@ -4,14 +4,14 @@ ghost use mathlib.Core.List.{[], _++_};
 ghost use Prim.Native.Nat.{_+_, _≤_, _<_, min};
 ghost use lib.ListN.{length, drop};
 ghost use lib.Seq.{sets};
-ghost use Rattle.setup.specs.Setup.{judged, lengthOf};
-ghost use Rattle.setup.specs.declared.Judgement.the-variants.{Accepted};
+ghost use Rattle.setup.specs.Setup.{rulingOn, lengthOf};
+ghost use Rattle.setup.specs.declared.Ruling.the-variants.{Accepted};
 ghost use Rattle.motion.specs.Totals.{totalsOf};
 ghost use Rattle.scan.specs.Scan.{first, later, ends, finds};
 ghost use Rattle.scan.specs.Calls.Answer.{refused};
 ghost use Rattle.search.specs.Search.{verdictOf};
-ghost use Rattle.session.specs.Session.{noAxes, heldBytes};
-ghost use Rattle.receiver.specs.Feed.{datagramWith, noFields, noValues, noDoubles, noDatagram, padded, meaning, replyBy, feedOf};
+ghost use Rattle.session.specs.Session.{noAxes, padded, heldBytes};
+ghost use Rattle.receiver.specs.Feed.{datagramWith, noFields, noValues, noDoubles, noDatagram, meaning, replyBy, feedOf};
 ghost use Rattle.receiver.specs.Turns.{contentsOf, turnOf, turnAtOnce, Room};
 use motion::Axes;
 use motion::Datagrams;
@@ -183,20 +183,6 @@ fn no_datagram() -> Datagram
     }
 }
 
-// Bytes with zeros behind them, 64 in all.
-fn keep(bytes: &[u8]) -> [u8; 64]
-    requires { ⌜ length (now bytes) ≤ 64 ⌝ }
-    ensures { λ r. ⌜ r ≡ padded 64 (now (bytes .entry)) ⌝ }
-{
-    let mut kept = [0u8; 64];
-    let mut i = 0;
-    while i < bytes.len() {
-        kept[i] = bytes[i];
-        i += 1;
-    }
-    kept
-}
-
 // A buffer with bytes written into it from a place on.
 fn put(buffer: [u8; 128], place: usize, bytes: &[u8]) -> [u8; 128]
     requires { ⌜ place + length (now bytes) ≤ 128 ⌝ }
@@ -265,7 +251,7 @@ fn hold(session: Session, passed: usize, taken: usize, undecided: &[u8]) -> Repl
     requires { ⌜ (length (now undecided) ≤ 64) × Room session passed × Room session taken ⌝ }
     ensures { λ r. ⌜ r ≡ turnOf session taken (ends passed (now (undecided .entry))) ⌝ }
 {
-    let held = keep(undecided);
+    let held = session::held_array(undecided);
     let mut next = session;
     next.held = held;
     next.count = undecided.len();
@@ -295,7 +281,7 @@ fn refuse(session: Session, number: u8) -> Reply
 
 // The call's scan of a piece from a place on, so many bytes having been passed over before it.
 fn scan_on(session: Session, size: usize, passed: usize, piece: &[u8], from: usize) -> Reply
-    requires { ⌜ (judged (session .setup) ≡ Accepted) × (size ≡ lengthOf (session .setup)) × (from ≤ length (now piece)) × Room session (passed + length (now piece)) ⌝ }
+    requires { ⌜ (rulingOn (session .setup) ≡ Accepted) × (size ≡ lengthOf (session .setup)) × (from ≤ length (now piece)) × Room session (passed + length (now piece)) ⌝ }
     ensures { λ r. ⌜ r ≡ turnAtOnce session (now (piece .entry)) (later passed (first (verdictOf (session .setup)) (drop from (now (piece .entry))))) ⌝ }
 {
     let setup = session.setup;
@@ -311,7 +297,7 @@ fn scan_on(session: Session, size: usize, passed: usize, piece: &[u8], from: usi
 
 // The call's scan of the bytes held and then of a piece: of both where they meet, and from there on of the piece alone.
 fn scan_held(session: Session, size: usize, piece: &[u8]) -> Reply
-    requires { ⌜ (judged (session .setup) ≡ Accepted) × (size ≡ lengthOf (session .setup)) × (session .count < size) × Room session (200 + length (now piece)) ⌝ }
+    requires { ⌜ (rulingOn (session .setup) ≡ Accepted) × (size ≡ lengthOf (session .setup)) × (session .count < size) × Room session (200 + length (now piece)) ⌝ }
     ensures { λ r. ⌜ r ≡ turnAtOnce session (now (piece .entry)) (first (verdictOf (session .setup)) (heldBytes session ++ now (piece .entry))) ⌝ }
 {
     let setup = session.setup;

@@ -25,26 +25,26 @@ module _ (L : Limits) (n k : ℕ) where
   outcome-whole h l = rw (le-leb k (L .piece) h, le-leb (n + k) (L .session) l)
 
   -- one of the three it is
-  pub data Judged : Type 0 where
-    over : L .piece < k → outcome L n k ≡ turnedDown 11 → Judged
-    past : k ≤ L .piece → L .session < n + k → outcome L n k ≡ turnedDown 12 → Judged
-    taken : k ≤ L .piece → n + k ≤ L .session → outcome L n k ≡ whole → Judged
+  pub data Sorted : Type 0 where
+    over : L .piece < k → outcome L n k ≡ turnedDown 11 → Sorted
+    past : k ≤ L .piece → L .session < n + k → outcome L n k ≡ turnedDown 12 → Sorted
+    taken : k ≤ L .piece → n + k ≤ L .session → outcome L n k ≡ whole → Sorted
 
-  pub judged : Judged
-  judged = go (decLe k (L .piece)) (decLe (n + k) (L .session))
+  pub sorted : Sorted
+  sorted = go (decLe k (L .piece)) (decLe (n + k) (L .session))
     where
-      go : Dec (k ≤ L .piece) → Dec (n + k ≤ L .session) → Judged
+      go : Dec (k ≤ L .piece) → Dec (n + k ≤ L .session) → Sorted
       go (no h) l = let g : L .piece < k = omega arith in over g (outcome-over g)
       go (yes h) (no l) = let g : L .session < n + k = omega arith in past h g (outcome-past h g)
       go (yes h) (yes l) = taken h l (outcome-whole h l)
 
   pub outcome-not-ten : outcome L n k ≡ turnedDown 10 → ⊥
-  outcome-not-ten e = by judged
+  outcome-not-ten e = by sorted
     where
       other : {m : ℕ} → (m ≡ 10 → ⊥) → outcome L n k ≡ turnedDown m → ⊥
       other h q = h (cc)
 
-      by : Judged → ⊥
+      by : Sorted → ⊥
       by (over a q) = other (λ z. omega arith) q
       by (past a b q) = other (λ z. omega arith) q
       by (taken a b q) = let z : _≡_ {A = ℕ} 0 1 = cc in omega arith

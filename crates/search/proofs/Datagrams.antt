@@ -1,9 +1,9 @@
 -- The datagrams of an accepted setup have one length and one identifier, and the verdict on them is lawful.
 use mathlib.Core.Path.{_≡_}
 use native.Mathlib.Omega.{arith}
-use Rattle.setup.specs.Setup.{judged, lengthOf}
+use Rattle.setup.specs.Setup.{rulingOn, lengthOf}
 use Rattle.setup.specs.declared.Setup.{Setup}
-use Rattle.setup.specs.declared.Judgement.the-variants.{Accepted}
+use Rattle.setup.specs.declared.Ruling.the-variants.{Accepted}
 use Rattle.setup.proofs.Refusals.{accepted-length}
 use Rattle.wire.proofs.Acceptance.{accepted}
 use Rattle.scan.specs.Front.{heldRule, Shaped}
@@ -12,7 +12,7 @@ use Rattle.scan.proofs.FrontLaws.{front-lawful}
 use Rattle.search.specs.Search.{isDatagram, verdictOf}
 use Rattle.search.proofs.ByteLists.{datagram-parts}
 
-module _ (u : Setup) (a : judged u ≡ Accepted) where
+module _ (u : Setup) (a : rulingOn u ≡ Accepted) where
   -- they have the setup's length and begin with its identifier
   pub shaped : Shaped (u .identifier) (lengthOf u) (isDatagram u)
   shaped =

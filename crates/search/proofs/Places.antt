@@ -6,9 +6,9 @@ use mathlib.Core.List.{List}
 use native.Mathlib.Omega.{arith}
 use lib.ListN.{length, take, drop, length-drop}
 use lib.Seq.{take-all}
-use Rattle.setup.specs.Setup.{judged, lengthOf}
+use Rattle.setup.specs.Setup.{rulingOn, lengthOf}
 use Rattle.setup.specs.declared.Setup.{Setup}
-use Rattle.setup.specs.declared.Judgement.the-variants.{Accepted}
+use Rattle.setup.specs.declared.Ruling.the-variants.{Accepted}
 use Rattle.scan.specs.Scan.{First, ends, finds, first, Stable}
 use Rattle.scan.proofs.ScanLaws.{Parted, parted-at}
 use Rattle.scan.proofs.AmongLaws.{follows-stable}
@@ -39,7 +39,7 @@ pub record IsOpen (u : Setup) (p : List ℕ) (at : ℕ) : Type 0 where
   pub within : at ≤ length p
   pub short : length p < at + lengthOf u
 
-module _ (u : Setup) (a : judged u ≡ Accepted) (p : List ℕ) (at : ℕ) where
+module _ (u : Setup) (a : rulingOn u ≡ Accepted) (p : List ℕ) (at : ℕ) where
   stable : Stable (verdictOf u)
   stable = follows-stable (verdictOf u) (isDatagram u) (lawful u a .follows)
 

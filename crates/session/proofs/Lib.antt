@@ -2,3 +2,4 @@
 pub mod AxisLaws
 pub mod Soundness
 pub mod Opening
+pub mod Padding

@@ -10,9 +10,9 @@ use lib.ListN.{length, take, drop, getD}
 use lib.Seq.{length-take-le}
 use borrow.Author.Tests.{eqb-true, eq-eqb, leb-true, le-leb}
 use Rattle.integers.proofs.Ranges.{and-split}
-use Rattle.setup.specs.Setup.{judged, lengthOf}
-use Rattle.setup.specs.declared.Judgement.{Judgement}
-use Rattle.setup.specs.declared.Judgement.the-variants.{Accepted, Refused}
+use Rattle.setup.specs.Setup.{rulingOn, lengthOf}
+use Rattle.setup.specs.declared.Ruling.{Ruling}
+use Rattle.setup.specs.declared.Ruling.the-variants.{Accepted, Refused}
 use Rattle.scan.specs.Front.{heldRule}
 use Rattle.scan.proofs.CallsLaws.{and-true}
 use Rattle.session.specs.declared.Session.{Session}
@@ -20,7 +20,7 @@ use Rattle.session.specs.Session.{isAccepted, setupRight, heldBytes, hel
 
 -- the clauses as facts
 pub record Facts (s : Session) : Type 0 where
-  pub accepted : judged (s .setup) ≡ Accepted
+  pub accepted : rulingOn (s .setup) ≡ Accepted
   pub within : s .count ≤ length (s .held)
   pub held : heldRule (s .setup .identifier) (lengthOf (s .setup)) (heldBytes s) ≡ true
   pub rest : allZero (drop (s .count) (s .held)) ≡ true
@@ -28,7 +28,7 @@ pub record Facts (s : Session) : Type 0 where
   pub most : s .fed ≤ 2 ^ 34
   pub axes : axesRight (s .setup) (s .datagrams .0) (s .axes) ≡ true
 
-pub accepted-true : (j : Judgement) → isAccepted j ≡ true → j ≡ Accepted
+pub accepted-true : (j : Ruling) → isAccepted j ≡ true → j ≡ Accepted
 accepted-true Accepted e = refl
 accepted-true (Refused n) e = let z : _≡_ {A = ℕ} 0 1 = cc in absurd (omega arith)
 
@@ -42,7 +42,7 @@ sound-facts s e =
     let t = and-split (sumRight s) _ (r .1) in
     let f = and-split (fedRight s) _ (t .1) in
     record {
-      accepted = accepted-true (judged (s .setup)) (p .0);
+      accepted = accepted-true (rulingOn (s .setup)) (p .0);
       within = leb-true (s .count) (length (s .held)) (h .0);
       held = h .1;
       rest = r .0;

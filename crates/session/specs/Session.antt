@@ -1,15 +1,15 @@
 -- 01, The scan: a fresh session; What is turned down: 4 to 9 of opening, and 10 of feeding, clause by clause.
-use Prim.Native.Nat.{ℕ, _+_, _*_, _^_}
+use Prim.Native.Nat.{ℕ, _+_, _*_, _^_, _-_}
 use mathlib.Core.Bool.{Bool, true, false, not, _&&_, _||_}
-use mathlib.Core.List.{List, [], _∷_}
+use mathlib.Core.List.{List, [], _∷_, _++_}
 use lib.Dec.{eqb, leb}
 use lib.IntN.{pos}
 use lib.ListN.{length, take, drop, replicate}
 use Rattle.integers.specs.Ranges.{isZero, within, inReading}
-use Rattle.setup.specs.Setup.{judged, zeroSetup, lengthOf}
+use Rattle.setup.specs.Setup.{rulingOn, zeroSetup, lengthOf}
 use Rattle.setup.specs.declared.Setup.{Setup}
-use Rattle.setup.specs.declared.Judgement.{Judgement}
-use Rattle.setup.specs.declared.Judgement.the-variants.{Accepted, Refused}
+use Rattle.setup.specs.declared.Ruling.{Ruling}
+use Rattle.setup.specs.declared.Ruling.the-variants.{Accepted, Refused}
 use Rattle.motion.specs.Gaps.{datagrams}
 use Rattle.motion.specs.Totals.{keeps}
 use Rattle.motion.specs.declared.Axis.{Axis}
@@ -46,13 +46,17 @@ freshOf u =
       axes = noAxes;
     }
 
+-- bytes with zeros behind them, n in all: so the held bytes stand in their array
+abbrev pub padded : ℕ → List ℕ → List ℕ
+padded n l = l ++ replicate (n - length l) 0
+
 -- opening gives a fresh session, or refuses the setup by 4 to 9 and gives a session of zeros
-abbrev pub openedBy : Judgement → Setup → Session
+abbrev pub openedBy : Ruling → Setup → Session
 openedBy Accepted u = freshOf u
 openedBy (Refused n) u = freshOf zeroSetup
 
 unfoldable pub opening : Setup → Opened
-opening u = record { answer = judged u; session = openedBy (judged u) u }
+opening u = record { answer = rulingOn u; session = openedBy (rulingOn u) u }
 
 -- ---- what feeding asks of a session: refusal 10, in 01's order
 
@@ -61,12 +65,12 @@ abbrev pub limits : Limits
 limits = record { piece = 4096; session = 2 ^ 34 }
 
 -- its setup would not be refused
-abbrev pub isAccepted : Judgement → Bool
+abbrev pub isAccepted : Ruling → Bool
 isAccepted Accepted = true
 isAccepted (Refused n) = false
 
 abbrev pub setupRight : Session → Bool
-setupRight s = isAccepted (judged (s .setup))
+setupRight s = isAccepted (rulingOn (s .setup))
 
 -- its held bytes keep the scan's rule; as many as it counts are there
 abbrev pub heldBytes : Session → List ℕ

@@ -1,17 +1,17 @@
 // A session: opening one, and whether feeding turns it down (01, The scan; What is turned down, 4 to 10).
 ghost use mathlib.Core.Path.{_≡_};
 ghost use mathlib.Core.Bool.{_&&_};
-ghost use Prim.Native.Nat.{_+_, _*_, _^_, _≤_};
+ghost use Prim.Native.Nat.{_+_, _*_, _^_, _≤_, min};
 ghost use lib.Dec.{eqb, leb};
 ghost use lib.ListN.{length, take, drop};
 ghost use Rattle.setup.specs.Setup.{zeroSetup};
 ghost use Rattle.scan.specs.Front.{heldRule};
-ghost use Rattle.session.specs.Session.{noAxes, freshOf, opening, isAccepted, allZero, axisRight, groupRight, axesRight, isSound};
+ghost use Rattle.session.specs.Session.{noAxes, freshOf, padded, opening, isAccepted, allZero, axisRight, groupRight, axesRight, isSound};
 use motion::Axes;
 use motion::Axis;
 use motion::Datagrams;
 use motion::GroupAxes;
-use setup::Judgement;
+use setup::Ruling;
 use setup::Setup;
 
 // What is kept from call to call.
@@ -30,9 +30,9 @@ pub struct Session {
     pub axes: Axes,
 }
 
-// What opening gives back: the judgement on the setup, and a fresh session, one of zeros where the setup is refused.
+// What opening gives back: the ruling on the setup, and a fresh session, one of zeros where the setup is refused.
 pub struct Opened {
-    pub answer: Judgement,
+    pub answer: Ruling,
     pub session: Session,
 }
 
@@ -88,12 +88,12 @@ fn zero_setup() -> Setup
 }
 
 // Whether a setup was accepted.
-fn is_accepted(answer: Judgement) -> bool
+fn is_accepted(answer: Ruling) -> bool
     ensures { λ r. ⌜ r ≡ isAccepted answer ⌝ }
 {
     match answer {
-        Judgement::Accepted => true,
-        Judgement::Refused(number) => false,
+        Ruling::Accepted => true,
+        Ruling::Refused(number) => false,
     }
 }
 
@@ -115,6 +115,27 @@ pub fn open(setup: Setup) -> Opened
         answer: answer,
         session: session,
     }
+}
+
+// How many of so many bytes a session can hold.
+fn fitting(count: usize) -> usize
+    ensures { λ r. ⌜ r ≡ min count 64 ⌝ }
+{
+    if count < 64 { count } else { 64 }
+}
+
+// Bytes as a session holds them: the first 64, with zeros behind where there are fewer.
+pub fn held_array(bytes: &[u8]) -> [u8; 64]
+    ensures { λ r. ⌜ r ≡ padded 64 (take 64 (now (bytes .entry))) ⌝ }
+{
+    let count = fitting(bytes.len());
+    let mut held = [0u8; 64];
+    let mut i = 0;
+    while i < count {
+        held[i] = bytes[i];
+        i += 1;
+    }
+    held
 }
 
 // Whether the bytes behind a place are all zero.

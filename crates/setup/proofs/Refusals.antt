@@ -5,23 +5,23 @@ use mathlib.Core.Bool.{true, false}
 use mathlib.Core.Path.{_≡_, refl, ap}
 use borrow.Author.Tests.{ltb-false, not-false}
 use Rattle.setup.specs.Layout.{layoutOf, partsAt, groupsCarried, lengthIn}
-use Rattle.setup.specs.Setup.{rateListed, isListed, anyAbove, stray, setupRules, judged, zeroSetup, lengthOf}
+use Rattle.setup.specs.Setup.{rateListed, isListed, anyAbove, stray, setupRules, rulingOn, zeroSetup, lengthOf}
 use Rattle.setup.specs.declared.Layout.{Layout}
 use Rattle.setup.specs.declared.Found.{Found}
 use Rattle.setup.specs.declared.Found.the-variants.{Listed, Unlisted}
 use Rattle.setup.specs.declared.Setup.{Setup}
-use Rattle.setup.specs.declared.Judgement.the-variants.{Accepted, Refused}
+use Rattle.setup.specs.declared.Ruling.the-variants.{Accepted, Refused}
 use Rattle.setup.proofs.Layouts.{before-range}
 use Rattle.setup.proofs.Rules.{first-within, none-applies}
 
 -- a setup given as values is refused by 4 to 9 only
-pub judge-numbers : (s : Setup) {n : ℕ} → judged s ≡ Refused n → (4 ≤ n) × (n ≤ 9)
-unfolding judged setupRules
+pub judge-numbers : (s : Setup) {n : ℕ} → rulingOn s ≡ Refused n → (4 ≤ n) × (n ≤ 9)
+unfolding rulingOn setupRules
 judge-numbers s e = first-within 4 9 (setupRules s) (omega arith) e
 
 -- a setup of zeros is itself refused
-pub zeros-refused : judged zeroSetup ≡ Refused 5
-unfolding judged setupRules layoutOf partsAt
+pub zeros-refused : rulingOn zeroSetup ≡ Refused 5
+unfolding rulingOn setupRules layoutOf partsAt
 zeros-refused = refl
 
 -- what is known of an accepted setup
@@ -38,8 +38,8 @@ is-listed : (f : Found) → isListed f ≡ true → (l : Layout) × (f ≡ Liste
 is-listed (Listed l) e = (l, refl)
 is-listed Unlisted e = let z : _≡_ {A = ℕ} 0 1 = cc in absurd (omega arith)
 
-pub accepted : (s : Setup) → judged s ≡ Accepted → Known s
-unfolding judged setupRules
+pub accepted : (s : Setup) → rulingOn s ≡ Accepted → Known s
+unfolding rulingOn setupRules
 accepted s e =
     let none = none-applies (setupRules s) e in
     let found = is-listed (layoutOf (s .identifier)) (not-false (isListed (layoutOf (s .identifier))) (none .1 .0)) in
@@ -54,7 +54,7 @@ accepted s e =
     }
 
 -- its datagrams are 18 to 65 bytes long
-pub accepted-length : (s : Setup) → judged s ≡ Accepted → (18 ≤ lengthOf s) × (lengthOf s ≤ 65)
+pub accepted-length : (s : Setup) → rulingOn s ≡ Accepted → (18 ≤ lengthOf s) × (lengthOf s ≤ 65)
 unfolding lengthOf
 accepted-length s e =
     let k = accepted s e in

@@ -5,7 +5,7 @@ use mathlib.Core.Bool.{Bool, true, false, cond}
 use mathlib.Core.List.{List, [], _∷_, _++_}
 use mathlib.Core.Path.{_≡_, refl}
 use Rattle.setup.specs.Setup.{Rule, firstOf}
-use Rattle.setup.specs.declared.Judgement.the-variants.{Accepted, Refused}
+use Rattle.setup.specs.declared.Ruling.the-variants.{Accepted, Refused}
 
 -- the number that comes out is one of the rules'
 abbrev pub Within : ℕ → ℕ → List Rule → Type 0

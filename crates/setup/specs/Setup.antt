@@ -8,8 +8,8 @@ use Rattle.setup.specs.Layout.{layoutOf, groupsCarried, lengthIn}
 use Rattle.setup.specs.declared.Found.{Found}
 use Rattle.setup.specs.declared.Found.the-variants.{Listed, Unlisted}
 use Rattle.setup.specs.declared.Setup.{Setup}
-use Rattle.setup.specs.declared.Judgement.{Judgement}
-use Rattle.setup.specs.declared.Judgement.the-variants.{Accepted, Refused}
+use Rattle.setup.specs.declared.Ruling.{Ruling}
+use Rattle.setup.specs.declared.Ruling.the-variants.{Accepted, Refused}
 
 -- a reason to turn something down, whether it applies, and 01's number for it
 pub record Rule : Type 0 where
@@ -20,7 +20,7 @@ abbrev pub rule : ℕ → Bool → Rule
 rule n b = record { applies = b; number = n }
 
 -- the answer by rules in checking order: refused by the number of the first that applies, accepted if none does
-abbrev pub firstOf : List Rule → Judgement
+abbrev pub firstOf : List Rule → Ruling
 firstOf [] = Accepted
 firstOf (r ∷ rs) = cond (r .applies) (Refused (r .number)) (firstOf rs)
 
@@ -58,8 +58,8 @@ setupRules s =
     rule 9 (stray (groupsCarried (s .identifier)) (s .units) (s .shifts)) ∷
     []
 
-unfoldable pub judged : Setup → Judgement
-judged s = firstOf (setupRules s)
+unfoldable pub rulingOn : Setup → Ruling
+rulingOn s = firstOf (setupRules s)
 
 -- a setup of zeros
 abbrev pub zeroSetup : Setup

@@ -3,7 +3,7 @@ ghost use mathlib.Core.Path.{_≡_};
 ghost use mathlib.Core.Bool.{cond};
 ghost use Prim.Native.Nat.{_≤_};
 ghost use Rattle.setup.specs.Layout.{layoutOf, groupsCarried};
-ghost use Rattle.setup.specs.Setup.{rateListed, isListed, anyAbove, strayGroup, stray, judged, lengthOf};
+ghost use Rattle.setup.specs.Setup.{rateListed, isListed, anyAbove, strayGroup, stray, rulingOn, lengthOf};
 
 // Where each part behind the identifier begins, 0 for one that isn't carried, and the bytes before the check.
 pub struct Layout {
@@ -35,7 +35,7 @@ pub struct Setup {
     pub shifts: [u16; 3],
 }
 
-pub enum Judgement {
+pub enum Ruling {
     Accepted,
     Refused(u8),
 }
@@ -130,30 +130,30 @@ fn stray(carried: [bool; 3], units: [u16; 3], shifts: [u16; 3]) -> bool
 }
 
 // Whether a setup given as values is accepted, or the number that refuses it: 4 to 9 in checking order.
-pub fn judge(setup: Setup) -> Judgement
-    ensures { λ r. ⌜ r ≡ judged setup ⌝ }
+pub fn judge(setup: Setup) -> Ruling
+    ensures { λ r. ⌜ r ≡ rulingOn setup ⌝ }
 {
     if !rate_listed(setup.rate) {
-        return Judgement::Refused(4);
+        return Ruling::Refused(4);
     }
     if !is_listed(setup.identifier) {
-        return Judgement::Refused(5);
+        return Ruling::Refused(5);
     }
     if 1 < setup.termination {
-        return Judgement::Refused(6);
+        return Ruling::Refused(6);
     }
     let units = setup.units;
     if any_above(3, units) {
-        return Judgement::Refused(7);
+        return Ruling::Refused(7);
     }
     let shifts = setup.shifts;
     if any_above(31, shifts) {
-        return Judgement::Refused(8);
+        return Ruling::Refused(8);
     }
     if stray(groups_carried(setup.identifier), units, shifts) {
-        return Judgement::Refused(9);
+        return Ruling::Refused(9);
     }
-    Judgement::Accepted
+    Ruling::Accepted
 }
 
 // The length L of a datagram, 0 where the identifier isn't in the table.

@@ -6,7 +6,7 @@ use Rattle.setup.specs.Layout.{groupsCarried, layoutOf, partsAt}
 use Rattle.setup.specs.Setup.{setupRules, lengthOf}
 use Rattle.setup_line.specs.SetupLine.{fieldsOf, fieldAt, allDigits, decimalWritten, identifierWritten, decimalFrom, identifierValue, lineWritten, setupWritten, lineRules, lineRead}
 use Rattle.setup.specs.declared.Setup.{Setup}
-use Rattle.setup.specs.declared.Judgement.the-variants.{Accepted}
+use Rattle.setup.specs.declared.Ruling.the-variants.{Accepted}
 
 abbrev example : List ℕ
 example =

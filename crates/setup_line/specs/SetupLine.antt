@@ -7,8 +7,8 @@ use lib.ListN.{length, getD}
 use Rattle.setup.specs.Setup.{Rule, rule, firstOf, setupRules, zeroSetup}
 use Rattle.setup.specs.declared.Setup.{Setup}
 use Rattle.setup_line.specs.declared.LineRead.{LineRead}
-use Rattle.setup.specs.declared.Judgement.{Judgement}
-use Rattle.setup.specs.declared.Judgement.the-variants.{Accepted, Refused}
+use Rattle.setup.specs.declared.Ruling.{Ruling}
+use Rattle.setup.specs.declared.Ruling.the-variants.{Accepted, Refused}
 
 -- a byte put in front of the first of some fields
 abbrev pub inFront : ℕ → List (List ℕ) → List (List ℕ)
@@ -91,7 +91,7 @@ lineRules line =
     setupRules (setupWritten line)
 
 -- a refused line gives back a setup of zeros
-abbrev pub readWith : Judgement → Setup → LineRead
+abbrev pub readWith : Ruling → Setup → LineRead
 readWith Accepted s = record { answer = Accepted; setup = s }
 readWith (Refused n) s = record { answer = Refused n; setup = zeroSetup }
 

@@ -4,14 +4,14 @@ ghost use mathlib.Core.Bool.{true};
 ghost use Prim.Native.Nat.{_+_, _≤_, _<_};
 ghost use lib.ListN.{length, drop};
 ghost use Rattle.setup.specs.Setup.{zeroSetup};
-ghost use Rattle.setup.specs.declared.Judgement.the-variants.{Refused};
+ghost use Rattle.setup.specs.declared.Ruling.the-variants.{Refused};
 ghost use Rattle.setup_line.specs.SetupLine.{fieldsOf, fieldAt, isHexDigit, isDigit, digitValue, allDigits, decimalWritten, identifierWritten, decimalValue, identifierValue, threeWritten, threeValues, lineWritten, setupWritten, lineRead};
-use setup::Judgement;
+use setup::Ruling;
 use setup::Setup;
 
-// What a line gives back: the judgement, and the setup that it writes, zeros where it is refused.
+// What a line gives back: the ruling, and the setup that it writes, zeros where it is refused.
 pub struct LineRead {
-    pub answer: Judgement,
+    pub answer: Ruling,
     pub setup: Setup,
 }
 
@@ -199,7 +199,7 @@ fn line_refused(number: u8) -> LineRead
     ensures { λ r. ⌜ r ≡ record { answer = Refused number; setup = zeroSetup } ⌝ }
 {
     LineRead {
-        answer: Judgement::Refused(number),
+        answer: Ruling::Refused(number),
         setup: Setup {
             rate: 0,
             identifier: 0,
@@ -227,10 +227,10 @@ pub fn read_line(line: &[u8]) -> LineRead
     let setup = setup_written(line);
     let answer = setup::judge(setup);
     match answer {
-        Judgement::Accepted => LineRead {
-            answer: Judgement::Accepted,
+        Ruling::Accepted => LineRead {
+            answer: Ruling::Accepted,
             setup: setup,
         },
-        Judgement::Refused(number) => line_refused(number),
+        Ruling::Refused(number) => line_refused(number),
     }
 }

@@ -10,7 +10,7 @@ use libc::STDIN_FILENO;
 use libc::STDOUT_FILENO;
 use lines::Received;
 use session::Session;
-use setup::Judgement;
+use setup::Ruling;
 use setup::Setup;
 
 // What one read gave.
@@ -280,7 +280,7 @@ fn run(input: &mut [u8], output: &mut [u8])
     let line = setup_line::read_line(&input[..end]);
     let setup = line.setup;
     let answer = line.answer;
-    if let Judgement::Refused(number) = answer {
+    if let Ruling::Refused(number) = answer {
         print_refusal(number);
         return;
     }

@@ -10,14 +10,14 @@ use lib.Dec.{eqb}
 use lib.IntN.{ℤ}
 use lib.ListN.{length, take, drop}
 use lib.Seq.{sets, sets-eq, paste, take-length, take-at}
-use Rattle.setup.specs.Setup.{setupRules, judged}
+use Rattle.setup.specs.Setup.{setupRules, rulingOn}
 use Rattle.setup.specs.declared.Setup.{Setup}
-use Rattle.setup.specs.declared.Judgement as judgement
+use Rattle.setup.specs.declared.Ruling as ruling
 use Rattle.setup.proofs.Rules.{first-accepted, first-refused}
 use Rattle.motion.specs.declared.Gap.{Gap}
 use Rattle.motion.specs.declared.Totals.{Totals}
 use Rattle.text.specs.Putting.{Put, roomAnswer, roomBuffer}
-use Rattle.text.specs.TextLine.{lineText, readingsFit, totalsWithin, outside, lineRules, lineJudged, lineAnswer, lineBuffer}
+use Rattle.text.specs.TextLine.{lineText, readingsFit, totalsWithin, outside, lineRules, lineRuling, lineAnswer, lineBuffer}
 use Rattle.text.specs.declared.Written.{Written}
 use Rattle.text.specs.declared.Written.the-variants.{Line, Refused}
 
@@ -67,20 +67,20 @@ module _ (b : List ℕ) (setup : Setup) (ordinal counter latency : ℕ) (gap : G
   abbrev buffer : List ℕ
   buffer = lineBuffer b setup ordinal counter latency gap readings statuses totals
 
-  pub setup-refused : {n : ℕ} → judged setup ≡ judgement.the-variants.Refused n → (Refused n ≡ answer) × (b ≡ buffer)
-  unfolding lineAnswer lineBuffer lineJudged lineRules judged
+  pub setup-refused : {n : ℕ} → rulingOn setup ≡ ruling.the-variants.Refused n → (Refused n ≡ answer) × (b ≡ buffer)
+  unfolding lineAnswer lineBuffer lineRuling lineRules rulingOn
   setup-refused e = rw (first-refused (setupRules setup) _ e) (refl, refl)
 
-  pub values-refused : judged setup ≡ judgement.the-variants.Accepted → outside ordinal readings totals ≡ true → (Refused 13 ≡ answer) × (b ≡ buffer)
-  unfolding lineAnswer lineBuffer lineJudged lineRules judged
+  pub values-refused : rulingOn setup ≡ ruling.the-variants.Accepted → outside ordinal readings totals ≡ true → (Refused 13 ≡ answer) × (b ≡ buffer)
+  unfolding lineAnswer lineBuffer lineRuling lineRules rulingOn
   values-refused e h = rw (first-accepted (setupRules setup) _ e, h) (refl, refl)
 
-  pub room-left : judged setup ≡ judgement.the-variants.Accepted → outside ordinal readings totals ≡ false → (roomAnswer b text ≡ answer) × (roomBuffer b text ≡ buffer)
-  unfolding lineAnswer lineBuffer lineJudged lineRules judged roomAnswer roomBuffer
+  pub room-left : rulingOn setup ≡ ruling.the-variants.Accepted → outside ordinal readings totals ≡ false → (roomAnswer b text ≡ answer) × (roomBuffer b text ≡ buffer)
+  unfolding lineAnswer lineBuffer lineRuling lineRules rulingOn roomAnswer roomBuffer
   room-left e h = rw (first-accepted (setupRules setup) _ e, h) (refl, refl)
 
   -- what is copied there, and what is put there
-  module _ (e : judged setup ≡ judgement.the-variants.Accepted) (h : outside ordinal readings totals ≡ false) where
+  module _ (e : rulingOn setup ≡ ruling.the-variants.Accepted) (h : outside ordinal readings totals ≡ false) where
     pub apart-written : {r : Written} {b1 : List ℕ} → (r ≡ roomAnswer b text) × (b1 ≡ roomBuffer b text) → (r ≡ answer) × (b1 ≡ buffer)
     apart-written p = let w = room-left e h in (p .0 ∙ w .0, p .1 ∙ w .1)
 

@@ -11,60 +11,60 @@ use lib.Dec.{ltb}
 use lib.IntN.{ℤ}
 use lib.ListN.{length, take, drop, getD}
 use lib.Seq.{take-at, drop-at}
-use Rattle.setup.specs.Setup.{Rule, rule, firstOf, setupRules, judged}
+use Rattle.setup.specs.Setup.{Rule, rule, firstOf, setupRules, rulingOn}
 use Rattle.setup.specs.declared.Setup.{Setup}
-use Rattle.setup.specs.declared.Judgement as judgement
-use Rattle.setup.specs.declared.Judgement.{Judgement}
+use Rattle.setup.specs.declared.Ruling as ruling
+use Rattle.setup.specs.declared.Ruling.{Ruling}
 use Rattle.setup.proofs.Refusals.{judge-numbers}
 use Rattle.setup.proofs.Rules.{first-accepted, first-refused}
 use Rattle.motion.specs.declared.Gap.{Gap}
 use Rattle.motion.specs.declared.Totals.{Totals}
-use Rattle.text.specs.TextLine.{lineText, outside, roomRules, lineRules, writtenBy, lineJudged, lineAnswer, lineBuffer, longestLine}
+use Rattle.text.specs.TextLine.{lineText, outside, roomRules, lineRules, writtenBy, lineRuling, lineAnswer, lineBuffer, longestLine}
 use Rattle.text.specs.declared.Written.{Written}
 use Rattle.text.specs.declared.Written.the-variants.{Line, Refused}
 use Rattle.text.proofs.Answers.{room-short, room-enough, room-left, inside}
 use Rattle.text.proofs.Longest.{MissedFits, longest}
 
--- ---- from an answer to the judgement
+-- ---- from an answer to the ruling
 
-refused-by : (j : Judgement) (t : List ℕ) {n : ℕ} → writtenBy j t ≡ Refused n → j ≡ judgement.the-variants.Refused n
-refused-by judgement.the-variants.Accepted t e = let z : _≡_ {A = ℕ} 0 1 = cc in absurd (omega arith)
-refused-by (judgement.the-variants.Refused m) t {n} e = let s : m ≡ n = cc in ap judgement.the-variants.Refused s
+refused-by : (j : Ruling) (t : List ℕ) {n : ℕ} → writtenBy j t ≡ Refused n → j ≡ ruling.the-variants.Refused n
+refused-by ruling.the-variants.Accepted t e = let z : _≡_ {A = ℕ} 0 1 = cc in absurd (omega arith)
+refused-by (ruling.the-variants.Refused m) t {n} e = let s : m ≡ n = cc in ap ruling.the-variants.Refused s
 
-written-by : (j : Judgement) (t : List ℕ) {n : ℕ} → writtenBy j t ≡ Line n → (j ≡ judgement.the-variants.Accepted) × (n ≡ length t)
-written-by judgement.the-variants.Accepted t {n} e = let s : n ≡ length t = cc in (refl, s)
-written-by (judgement.the-variants.Refused m) t e = let z : _≡_ {A = ℕ} 0 1 = cc in absurd (omega arith)
+written-by : (j : Ruling) (t : List ℕ) {n : ℕ} → writtenBy j t ≡ Line n → (j ≡ ruling.the-variants.Accepted) × (n ≡ length t)
+written-by ruling.the-variants.Accepted t {n} e = let s : n ≡ length t = cc in (refl, s)
+written-by (ruling.the-variants.Refused m) t e = let z : _≡_ {A = ℕ} 0 1 = cc in absurd (omega arith)
 
 -- ---- rules in two lists
 
-refused-split : (rs ss : List Rule) {n : ℕ} → firstOf (rs ++ ss) ≡ judgement.the-variants.Refused n
-    → (firstOf rs ≡ judgement.the-variants.Refused n) ⊎ (firstOf ss ≡ judgement.the-variants.Refused n)
+refused-split : (rs ss : List Rule) {n : ℕ} → firstOf (rs ++ ss) ≡ ruling.the-variants.Refused n
+    → (firstOf rs ≡ ruling.the-variants.Refused n) ⊎ (firstOf ss ≡ ruling.the-variants.Refused n)
 refused-split rs ss {n} e = by (firstOf rs) refl
   where
-    by : (j : Judgement) → firstOf rs ≡ j → (firstOf rs ≡ judgement.the-variants.Refused n) ⊎ (firstOf ss ≡ judgement.the-variants.Refused n)
-    by judgement.the-variants.Accepted a = inr (sym (first-accepted rs ss a) ∙ e)
-    by (judgement.the-variants.Refused m) a = inl (a ∙ sym (first-refused rs ss a) ∙ e)
+    by : (j : Ruling) → firstOf rs ≡ j → (firstOf rs ≡ ruling.the-variants.Refused n) ⊎ (firstOf ss ≡ ruling.the-variants.Refused n)
+    by ruling.the-variants.Accepted a = inr (sym (first-accepted rs ss a) ∙ e)
+    by (ruling.the-variants.Refused m) a = inl (a ∙ sym (first-refused rs ss a) ∙ e)
 
-accepted-split : (rs ss : List Rule) → firstOf (rs ++ ss) ≡ judgement.the-variants.Accepted
-    → (firstOf rs ≡ judgement.the-variants.Accepted) × (firstOf ss ≡ judgement.the-variants.Accepted)
+accepted-split : (rs ss : List Rule) → firstOf (rs ++ ss) ≡ ruling.the-variants.Accepted
+    → (firstOf rs ≡ ruling.the-variants.Accepted) × (firstOf ss ≡ ruling.the-variants.Accepted)
 accepted-split rs ss e = by (firstOf rs) refl
   where
-    by : (j : Judgement) → firstOf rs ≡ j → (firstOf rs ≡ judgement.the-variants.Accepted) × (firstOf ss ≡ judgement.the-variants.Accepted)
-    by judgement.the-variants.Accepted a = (a, sym (first-accepted rs ss a) ∙ e)
-    by (judgement.the-variants.Refused m) a = let f = first-refused rs ss a in let z : _≡_ {A = ℕ} 0 1 = cc in absurd (omega arith)
+    by : (j : Ruling) → firstOf rs ≡ j → (firstOf rs ≡ ruling.the-variants.Accepted) × (firstOf ss ≡ ruling.the-variants.Accepted)
+    by ruling.the-variants.Accepted a = (a, sym (first-accepted rs ss a) ∙ e)
+    by (ruling.the-variants.Refused m) a = let f = first-refused rs ss a in let z : _≡_ {A = ℕ} 0 1 = cc in absurd (omega arith)
 
 -- 13 and 14
-last-refused : (o t : Bool) {n : ℕ} → firstOf (rule 13 o ∷ rule 14 t ∷ []) ≡ judgement.the-variants.Refused n → (n ≡ 13) ⊎ (n ≡ 14)
+last-refused : (o t : Bool) {n : ℕ} → firstOf (rule 13 o ∷ rule 14 t ∷ []) ≡ ruling.the-variants.Refused n → (n ≡ 13) ⊎ (n ≡ 14)
 last-refused true t {n} e = let s : n ≡ 13 = cc in inl s
 last-refused false true {n} e = let s : n ≡ 14 = cc in inr s
 last-refused false false e = let z : _≡_ {A = ℕ} 0 1 = cc in absurd (omega arith)
 
-last-fourteen : (o t : Bool) → firstOf (rule 13 o ∷ rule 14 t ∷ []) ≡ judgement.the-variants.Refused 14 → (o ≡ false) × (t ≡ true)
+last-fourteen : (o t : Bool) → firstOf (rule 13 o ∷ rule 14 t ∷ []) ≡ ruling.the-variants.Refused 14 → (o ≡ false) × (t ≡ true)
 last-fourteen true t e = let s : _≡_ {A = ℕ} 13 14 = cc in absurd (omega arith)
 last-fourteen false true e = (refl, refl)
 last-fourteen false false e = let z : _≡_ {A = ℕ} 0 1 = cc in absurd (omega arith)
 
-last-accepted : (o t : Bool) → firstOf (rule 13 o ∷ rule 14 t ∷ []) ≡ judgement.the-variants.Accepted → (o ≡ false) × (t ≡ false)
+last-accepted : (o t : Bool) → firstOf (rule 13 o ∷ rule 14 t ∷ []) ≡ ruling.the-variants.Accepted → (o ≡ false) × (t ≡ false)
 last-accepted true t e = let z : _≡_ {A = ℕ} 0 1 = cc in absurd (omega arith)
 last-accepted false true e = let z : _≡_ {A = ℕ} 0 1 = cc in absurd (omega arith)
 last-accepted false false e = (refl, refl)
@@ -78,8 +78,8 @@ module _ (b : List ℕ) (setup : Setup) (ordinal counter latency : ℕ) (gap : G
   abbrev text : List ℕ
   text = lineText setup ordinal counter latency gap readings statuses totals
 
-  abbrev judged-line : Judgement
-  judged-line = lineJudged b setup ordinal counter latency gap readings statuses totals
+  abbrev ruling-line : Ruling
+  ruling-line = lineRuling b setup ordinal counter latency gap readings statuses totals
 
   abbrev answer : Written
   answer = lineAnswer b setup ordinal counter latency gap readings statuses totals
@@ -87,17 +87,17 @@ module _ (b : List ℕ) (setup : Setup) (ordinal counter latency : ℕ) (gap : G
   abbrev buffer : List ℕ
   buffer = lineBuffer b setup ordinal counter latency gap readings statuses totals
 
-  to-refused : {n : ℕ} → answer ≡ Refused n → judged-line ≡ judgement.the-variants.Refused n
+  to-refused : {n : ℕ} → answer ≡ Refused n → ruling-line ≡ ruling.the-variants.Refused n
   unfolding lineAnswer
-  to-refused e = refused-by judged-line text e
+  to-refused e = refused-by ruling-line text e
 
-  to-accepted : {n : ℕ} → answer ≡ Line n → (judged-line ≡ judgement.the-variants.Accepted) × (n ≡ length text)
+  to-accepted : {n : ℕ} → answer ≡ Line n → (ruling-line ≡ ruling.the-variants.Accepted) × (n ≡ length text)
   unfolding lineAnswer
-  to-accepted e = written-by judged-line text e
+  to-accepted e = written-by ruling-line text e
 
   -- a line is refused by 4 to 9, 13 and 14 only
   pub answer-numbers : {n : ℕ} → answer ≡ Refused n → LineNumber n
-  unfolding lineJudged lineRules judged
+  unfolding lineRuling lineRules rulingOn
   answer-numbers {n} e =
       ⊎-elim (λ s. inl (judge-numbers setup s)) (λ l. inr (last-refused (outside ordinal readings totals) (ltb (length b) (length text)) l))
       (refused-split (setupRules setup) (rule 13 (outside ordinal readings totals) ∷ roomRules text (length b)) (to-refused e))
@@ -122,15 +122,15 @@ module _ (b : List ℕ) (setup : Setup) (ordinal counter latency : ℕ) (gap : G
   written-rest {n} e = ap (drop n) (written-front e) ∙ drop-at text (drop n b) n (sym (written-tells e))
 
   -- what is written has been accepted, and has room
-  pub written-fits : {n : ℕ} → answer ≡ Line n → (judged setup ≡ judgement.the-variants.Accepted) × (outside ordinal readings totals ≡ false) × (length text ≤ length b)
-  unfolding lineJudged lineRules judged
+  pub written-fits : {n : ℕ} → answer ≡ Line n → (rulingOn setup ≡ ruling.the-variants.Accepted) × (outside ordinal readings totals ≡ false) × (length text ≤ length b)
+  unfolding lineRuling lineRules rulingOn
   written-fits e =
       let a = accepted-split (setupRules setup) (rule 13 (outside ordinal readings totals) ∷ roomRules text (length b)) (to-accepted e .0) in
       let l = last-accepted (outside ordinal readings totals) (ltb (length b) (length text)) (a .1) in
       (a .0, l .0, ltb-false (length b) (length text) (l .1))
 
   -- a buffer as long as the line is enough, and one that is shorter isn't
-  module _ (a : judged setup ≡ judgement.the-variants.Accepted) (h : outside ordinal readings totals ≡ false) where
+  module _ (a : rulingOn setup ≡ ruling.the-variants.Accepted) (h : outside ordinal readings totals ≡ false) where
     pub enough-room : length text ≤ length b → answer ≡ Line (length text)
     enough-room l = sym (room-enough b text l .0 ∙ room-left b setup ordinal counter latency gap readings statuses totals a h .0)
 
@@ -139,7 +139,7 @@ module _ (b : List ℕ) (setup : Setup) (ordinal counter latency : ℕ) (gap : G
 
   -- a buffer of `longestLine` bytes is never too short
   pub never-short : ordinal < 2 ^ 64 → counter < 256 → latency < 65536 → MissedFits gap → ((i : ℕ) → getD statuses i 0 < 256) → longestLine ≤ length b → answer ≡ Refused 14 → ⊥
-  unfolding lineJudged lineRules judged
+  unfolding lineRuling lineRules rulingOn
   never-short o c l g s room e =
       ⊎-elim (λ f. let n = judge-numbers setup f in omega arith)
       (λ f.

@@ -9,8 +9,8 @@ use Rattle.integers.specs.Ranges.{inReading, within}
 use Rattle.setup.specs.Layout.{groupsCarried}
 use Rattle.setup.specs.Setup.{Rule, rule, firstOf, setupRules}
 use Rattle.setup.specs.declared.Setup.{Setup}
-use Rattle.setup.specs.declared.Judgement as judgement
-use Rattle.setup.specs.declared.Judgement.{Judgement}
+use Rattle.setup.specs.declared.Ruling as ruling
+use Rattle.setup.specs.declared.Ruling.{Ruling}
 use Rattle.motion.specs.Totals.{groupsKept}
 use Rattle.motion.specs.declared.Gap.{Gap}
 use Rattle.motion.specs.declared.Gap.the-variants.{Missed, OffStep}
@@ -113,24 +113,24 @@ lineRules setup ordinal readings totals text room =
 -- ---- the answer and the buffer
 
 -- the answer: the number of the rule that refuses the line, or how many bytes it has
-abbrev pub writtenBy : Judgement → List ℕ → Written
-writtenBy judgement.the-variants.Accepted text = Line (length text)
-writtenBy (judgement.the-variants.Refused number) text = Refused number
+abbrev pub writtenBy : Ruling → List ℕ → Written
+writtenBy ruling.the-variants.Accepted text = Line (length text)
+writtenBy (ruling.the-variants.Refused number) text = Refused number
 
 -- the buffer at exit: the line from the front and every later byte as it was, or all as it was
-abbrev pub bufferBy : Judgement → List ℕ → List ℕ → List ℕ
-bufferBy judgement.the-variants.Accepted text b = text ++ drop (length text) b
-bufferBy (judgement.the-variants.Refused number) text b = b
+abbrev pub bufferBy : Ruling → List ℕ → List ℕ → List ℕ
+bufferBy ruling.the-variants.Accepted text b = text ++ drop (length text) b
+bufferBy (ruling.the-variants.Refused number) text b = b
 
 module _ (b : List ℕ) (setup : Setup) (ordinal counter latency : ℕ) (gap : Gap) (readings : List (List ℤ)) (statuses : List ℕ) (totals : Totals) where
-  unfoldable pub lineJudged : Judgement
-  lineJudged = firstOf (lineRules setup ordinal readings totals (lineText setup ordinal counter latency gap readings statuses totals) (length b))
+  unfoldable pub lineRuling : Ruling
+  lineRuling = firstOf (lineRules setup ordinal readings totals (lineText setup ordinal counter latency gap readings statuses totals) (length b))
 
   unfoldable pub lineAnswer : Written
-  lineAnswer = writtenBy lineJudged (lineText setup ordinal counter latency gap readings statuses totals)
+  lineAnswer = writtenBy lineRuling (lineText setup ordinal counter latency gap readings statuses totals)
 
   unfoldable pub lineBuffer : List ℕ
-  lineBuffer = bufferBy lineJudged (lineText setup ordinal counter latency gap readings statuses totals) b
+  lineBuffer = bufferBy lineRuling (lineText setup ordinal counter latency gap readings statuses totals) b
 
 -- no line that is written is longer
 abbrev pub longestLine : ℕ

@@ -10,7 +10,7 @@ use motion::Gap;
 use motion::GroupTotals;
 use motion::Total;
 use motion::Totals;
-use setup::Judgement;
+use setup::Ruling;
 use setup::Setup;
 
 // The bytes of the line that was written, or the number that refused it.
@@ -350,8 +350,8 @@ pub fn write_line(
 ) -> Written
     ensures { λ r. ⌜ r ≡ lineAnswer (now (buffer .entry)) setup ordinal counter latency gap readings statuses totals ⌝ ∗ ⌜ now (buffer .exit) ≡ lineBuffer (now (buffer .entry)) setup ordinal counter latency gap readings statuses totals ⌝ }
 {
-    let judgement = setup::judge(setup);
-    if let Judgement::Refused(number) = judgement {
+    let ruling = setup::judge(setup);
+    if let Ruling::Refused(number) = ruling {
         return Written::Refused(number);
     }
     if outside(ordinal, readings, totals) {

@@ -110,7 +110,7 @@ module _ (u : Setup) (body : List ℕ) (listed : isListed (layoutOf (u .identifi
   unfolding written
   written-bytes h =
       let b : AllBytes front = bytes-cons (listed-byte (u .identifier) listed) h in
-      bytes-append b (bytes-append (four-bytes (check32 front) (check32-lt front (b .each))) (ending-bytes (u .termination)))
+      bytes-append b (bytes-append (four-bytes (check32 front) (check32-lt front b)) (ending-bytes (u .termination)))
 
 -- ---- and no others
 
@@ -135,7 +135,7 @@ module _ (u : Setup) (s : List ℕ) (bytes : AllBytes s) (good : acceptable u s 
   check-same =
       let l = long in
       bigEndian-injective (take 4 (drop n s)) (fourBytes (check32 (take n s))) (bytes-take 4 (bytes-drop n bytes))
-      (four-bytes (check32 (take n s)) (check32-lt (take n s) (bytes-take n bytes .each)))
+      (four-bytes (check32 (take n s)) (check32-lt (take n s) (bytes-take n bytes)))
       (length-take-le 4 (drop n s) (omega (arith, length-drop n s)))
       (eqb-true (bigEndian (take 4 (drop n s))) (check32 (take n s)) (known .check) ∙ sym (four-value (check32 (take n s))))
 

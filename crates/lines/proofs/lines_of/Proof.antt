@@ -1,10 +1,13 @@
 -- `lines::lines_of` meets its contract. Assumes nothing.
-use mathlib.Core.Path.{ap}
+use Prim.Native.Nat.{_-_, _≤_}
+use mathlib.Core.Path.{_≡_, ap, _∙_}
 use native.Mathlib.Omega.{arith}
 use borrow.Author.Needs.{needs}
-use lib.ListN.{length, length-drop}
+use lib.ListN.{length, take, drop, length-drop}
+use lib.Seq.{take-all}
 use Rattle.setup.proofs.Refusals.{accepted-length}
 use Rattle.search.proofs.Places.{to-end}
+use Rattle.session.specs.Session.{padded}
 use Rattle.lines.proofs.Going.{made-through}
 use Rattle.lines.proofs.lines_of.Statement.{statement}
 use Rattle.lines.proofs.lines_of.Tie as tie
@@ -12,26 +15,17 @@ use Rattle.lines.proofs.lines_of.Tie as tie
 lines-from-requires : tie.Need-lines-from-requires
 lines-from-requires c κs = c .before .before .before .before .before .pre .0
 
-sub-keep : tie.Need-sub-keep
-sub-keep c = c .before .before .before .lines-from .ensures .within
+sub-held-array : tie.Need-sub-held-array
+sub-held-array c = c .before .before .before .lines-from .ensures .within
 
-part-keep-start : tie.Need-part-keep-start
-part-keep-start c = c .before .before .before .lines-from .ensures .within
+part-held-array-start : tie.Need-part-held-array-start
+part-held-array-start c = c .before .before .before .lines-from .ensures .within
 
-part-keep-end : tie.Need-part-keep-end
-part-keep-end c = search needs
+part-held-array-end : tie.Need-part-held-array-end
+part-held-array-end c = search needs
 
-keep-requires : tie.Need-keep-requires
-keep-requires c κs =
-    let s = c .before .before .before .before .before .before .before .before .before .before in
-    let f = c .before .before .before .before .lines-from in
-    omega (
-      arith,
-      ap length (to-end (s .args .piece .now) (f .result .at)),
-      length-drop (f .result .at) (s .args .piece .now),
-      f .ensures .short,
-      accepted-length (s .args .session .setup) (s .pre .0 .accepted) .1,
-    )
+held-array-requires : tie.Need-held-array-requires
+held-array-requires c κs = search needs
 
 sub-t18 : tie.Need-sub-t18
 sub-t18 c = c .before .before .before .before .before .lines-from .ensures .within
@@ -47,19 +41,30 @@ same-length c = search needs
 
 returns : tie.Need-returns
 returns c =
-    let a = c .before .before .before .before .before .before .before .before .before .before .before .before .args in
+    let s = c .before .before .before .before .before .before .before .before .before .before .before .before in
+    let a = s .args in
     let f = c .before .before .before .before .before .before .lines-from in
-    made-through (a .session) (a .at) (a .used) (a .piece .now) (a .buffer .now) (f .last .1 .1 .1 .0) (c .before .keep .result) (f .result) (f .ensures) (c .before .keep .ensures)
+    let rest = take (length (a .piece .now) - f .result .at) (drop (f .result .at) (a .piece .now)) in
+    let few : length rest ≤ 64 =
+    omega (
+      arith,
+      ap length (to-end (a .piece .now) (f .result .at)),
+      length-drop (f .result .at) (a .piece .now),
+      f .ensures .short,
+      accepted-length (a .session .setup) (s .pre .0 .accepted) .1,
+    ) in
+    let kept : c .before .held-array .result ≡ padded 64 rest = c .before .held-array .ensures ∙ ap (padded 64) (take-all 64 rest few) in
+    made-through (a .session) (a .at) (a .used) (a .piece .now) (a .buffer .now) (f .last .1 .1 .1 .0) (c .before .held-array .result) (f .result) (f .ensures) kept
 
 pub lines-of-spec : {M : Type 1} → statement M
 lines-of-spec =
     tie.close
     (tie.spec
     lines-from-requires
-    sub-keep
-    part-keep-start
-    part-keep-end
-    keep-requires
+    sub-held-array
+    part-held-array-start
+    part-held-array-end
+    held-array-requires
     sub-t18
     sub-t22
     add-t24

@@ -1,11 +1,12 @@
 -- `receiver::hold` meets its contract. Assumes nothing.
 use Rattle.receiver.specs.Turns.{turnOf}
+use lib.Seq.{take-all}
 use borrow.Author.Needs.{needs}
 use Rattle.receiver.proofs.hold.Statement.{statement}
 use Rattle.receiver.proofs.hold.Tie as tie
 
-keep-requires : tie.Need-keep-requires
-keep-requires c κs = search needs
+held-array-requires : tie.Need-held-array-requires
+held-array-requires c κs = search needs
 
 add-next : tie.Need-add-next
 add-next c = search needs
@@ -18,7 +19,9 @@ no-datagram-requires c κs = search needs
 
 returns : tie.Need-returns
 unfolding turnOf
-returns c = rw (c .before .before .before .keep .ensures, c .no-datagram .ensures)
+returns c =
+    let start = c .before .before .before .before .before in
+    rw (c .before .before .before .held-array .ensures, take-all 64 (start .args .undecided .now) (start .pre .0), c .no-datagram .ensures)
 
 pub hold-spec : {M : Type 1} → statement M
-hold-spec = tie.close (tie.spec keep-requires add-next add-next-2 no-datagram-requires returns)
+hold-spec = tie.close (tie.spec held-array-requires add-next add-next-2 no-datagram-requires returns)

@@ -13,7 +13,7 @@ use Rattle.search.proofs.Places.{to-end, part-of, IsWhole, IsOpen, found-whole,
 use Rattle.session.specs.Session.{heldBytes}
 use Rattle.receiver.specs.Turns.{turnAtOnce}
 use Rattle.receiver.proofs.Joining.{whole-joined, whole-taken, open-joined}
-use Rattle.receiver.proofs.Padding.{padded-front}
+use Rattle.session.proofs.Padding.{padded-front}
 use Rattle.receiver.proofs.Turns.{turn-found, turn-held, room-less}
 use borrow.Author.Needs.{needs}
 use Rattle.receiver.proofs.scan_held.Statement.{statement}

@@ -7,7 +7,7 @@ use lib.Dec.{leb}
 use lib.ListN.{length}
 use borrow.Author.Tests.{not-true, not-false, leb-true}
 use borrow.Author.Needs.{needs}
-use Rattle.setup.specs.Setup.{judged, lengthOf}
+use Rattle.setup.specs.Setup.{rulingOn, lengthOf}
 use Rattle.setup.proofs.Refusals.{accepted-length}
 use Rattle.integers.proofs.Ranges.{and-split}
 use Rattle.scan.specs.Front.{heldRule}
@@ -16,7 +16,7 @@ use Rattle.session.proofs.Soundness.{accepted-true, in-parts, counts-fe
 use Rattle.session.proofs.is_sound.Statement.{statement}
 use Rattle.session.proofs.is_sound.Tie as tie
 
-accepted : (c : tie.Else1) → isAccepted (judged (c .before .before .before .before .before .args .session .setup)) ≡ true
+accepted : (c : tie.Else1) → isAccepted (rulingOn (c .before .before .before .before .before .args .session .setup)) ≡ true
 accepted c = ap isAccepted (sym (c .before .before .judge .ensures)) ∙ sym (c .before .is-accepted .ensures) ∙ not-false _ (c .if1 .left)
 
 held : (c : tie.Else2) → (heldRight (c .before .before .before .before .before .before .before .before .args .session) && restRight (c .before .before .before .before .before .before .before .before .args .session)) ≡ true

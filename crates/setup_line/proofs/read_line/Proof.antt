@@ -1,6 +1,6 @@
 use mathlib.Core.Path.{sym, _∙_}
 use borrow.Author.Tests.{eq-eqb, ne-eqb, not-false}
-use Rattle.setup.specs.Setup.{judged}
+use Rattle.setup.specs.Setup.{rulingOn}
 use Rattle.setup_line.specs.SetupLine.{lineRules, lineRead}
 use borrow.Author.Needs.{needs}
 use Rattle.setup_line.proofs.read_line.Statement.{statement}
@@ -49,11 +49,11 @@ line-refused-requires-4 : tie.Need-line-refused-requires-4
 line-refused-requires-4 c κs = search needs
 
 returns-4 : tie.Need-returns-4
-unfolding lineRead lineRules judged
+unfolding lineRead lineRules rulingOn
 returns-4 c = rw (c .before .before .before .before .before .before .before .before .if1 .left, ← c .before .before .before .before .before .before .before .field-count .ensures, eq-eqb _ _ (c .before .before .before .before .before .before .if2 .left), ← c .before .before .before .before .before .line-written .ensures, c .before .before .before .before .if3 .left, ← c .before .before .before .setup-written .ensures, sym (c .before .before .judge .ensures) ∙ c .enum-told .given .1)
 
 returns-5 : tie.Need-returns-5
-unfolding lineRead lineRules judged
+unfolding lineRead lineRules rulingOn
 returns-5 c = rw (c .line-refused4 .ensures, c .before .before .before .before .before .before .before .before .before .before .if1 .left, ← c .before .before .before .before .before .before .before .before .before .field-count .ensures, eq-eqb _ _ (c .before .before .before .before .before .before .before .before .if2 .left), ← c .before .before .before .before .before .before .before .line-written .ensures, c .before .before .before .before .before .before .if3 .left, ← c .before .before .before .before .before .setup-written .ensures, sym (c .before .before .before .before .judge .ensures) ∙ c .before .before .answer .given .1)
 
 pub read-line-spec : {M : Type 1} → statement M

@@ -6,8 +6,8 @@ use native.Mathlib.Omega.{arith}
 use lib.ListN.{length, take}
 use lib.Seq.{length-take-le}
 use borrow.Author.Needs.{needs}
-use Rattle.setup.specs.Setup.{judged}
-use Rattle.setup.specs.declared.Judgement.the-variants.{Accepted}
+use Rattle.setup.specs.Setup.{rulingOn}
+use Rattle.setup.specs.declared.Ruling.the-variants.{Accepted}
 use Rattle.setup_line.specs.SetupLine.{lineRead}
 use Rattle.setup_line.specs.declared.LineRead.{LineRead}
 use Rattle.setup_line.proofs.LineAnswers.{accepted-line}
@@ -24,7 +24,7 @@ unfolding freshOf
 fresh-feedable l r o p q e =
     let u = r .setup in
     let a : lineRead l .answer ≡ Accepted = ap (λ (x : LineRead). x .answer) (sym p) ∙ q in
-    let ok : judged u ≡ Accepted = ap (λ (x : LineRead). judged (x .setup)) p ∙ accepted-line l a .1 in
+    let ok : rulingOn u ≡ Accepted = ap (λ (x : LineRead). rulingOn (x .setup)) p ∙ accepted-line l a .1 in
     let f : o ≡ record { answer = Accepted; session = freshOf u } = e ∙ opened u ok in
     subst (λ (x : Opened). Feedable (x .session) 17179869184) (sym f) (record { sound = fresh-sound u ok; room = omega arith })
 

@@ -15,8 +15,8 @@ use Rattle.motion.specs.declared.Gap.{Gap}
 use Rattle.motion.specs.declared.Gap.the-variants.{Missed, OffStep}
 use Rattle.text.proofs.Longest.{MissedFits, longest}
 use mathlib.Core.Path.{_≡_, sym, _∙_}
-use Rattle.setup.specs.Setup.{judged}
-use Rattle.setup.specs.declared.Judgement.the-variants.{Accepted}
+use Rattle.setup.specs.Setup.{rulingOn}
+use Rattle.setup.specs.declared.Ruling.the-variants.{Accepted}
 use Rattle.text.specs.TextLine.{lineText, outside, longestLine}
 use Rattle.text.proofs.Answers.{inside, setup-refused, values-refused, apart-written, put-written}
 use Rattle.text.proofs.write_line.Statement.{statement}
@@ -37,7 +37,7 @@ status-fits : (c : tie.Start) (i : ℕ) → Fits w8 (getD (c .args .statuses) i 
 status-fits c i = search needs
 
 -- only 14 is left to refuse the line
-accepted : (c : tie.After-outside) → judged (c .before .before .before .before .before .args .setup) ≡ Accepted
+accepted : (c : tie.After-outside) → rulingOn (c .before .before .before .before .before .args .setup) ≡ Accepted
 accepted c = sym (c .before .before .before .judge .ensures) ∙ c .before .enum-told .given .1
 
 inside-limits : (c : tie.Else1) → let a = c .before .before .before .before .before .before .args in outside (a .ordinal) (a .readings) (a .totals) ≡ false
@@ -54,13 +54,13 @@ short c =
 judge-requires : tie.Need-judge-requires
 judge-requires c κs = search needs
 
-enum-known-judgement : tie.Need-enum-known-judgement
-enum-known-judgement c = search needs
+enum-known-ruling : tie.Need-enum-known-ruling
+enum-known-ruling c = search needs
 
 returns : tie.Need-returns
 returns c =
     let a = c .before .before .before .before .before .args in
-    setup-refused (a .buffer .now) (a .setup) (a .ordinal) (a .counter) (a .latency) (a .gap) (a .readings) (a .statuses) (a .totals) (sym (c .before .before .before .judge .ensures) ∙ c .before .judgement .given .1)
+    setup-refused (a .buffer .now) (a .setup) (a .ordinal) (a .counter) (a .latency) (a .gap) (a .readings) (a .statuses) (a .totals) (sym (c .before .before .before .judge .ensures) ∙ c .before .ruling .given .1)
 
 enum-told : tie.Need-enum-told
 enum-told c = search needs
@@ -104,7 +104,7 @@ write-line-spec =
     tie.close
     (tie.spec
     judge-requires
-    enum-known-judgement
+    enum-known-ruling
     returns
     enum-told
     outside-requires

@@ -1,13 +1,14 @@
 -- Laws of bytes with zeros behind them, for every width.
-use Prim.Native.Nat.{ℕ, zero, suc, _+_, _-_, _≤_, _<_}
+use Prim.Native.Nat.{min, ℕ, zero, suc, _+_, _-_, _≤_, _<_}
 use mathlib.Core.Path.{_≡_, refl, sym, ap, _∙_}
 use mathlib.Core.List.{List, [], _∷_, _++_, append-assoc, append-nil}
 use native.Mathlib.Nat.{add-zero}
 use native.Mathlib.Numerals.{add-one}
+use native.Mathlib.Decide.{decLe}
 use native.Mathlib.Omega.{arith}
 use lib.ListN.{length, take, drop, getD, set, replicate, length-append}
-use lib.Seq.{take-suc, take-at, drop-at, length-take-le, set-append-seam, append-snoc, sets}
-use Rattle.receiver.specs.Feed.{padded}
+use lib.Seq.{take-all, take-suc, take-at, drop-at, length-take-le, set-append-seam, append-snoc, sets}
+use Rattle.session.specs.Session.{padded}
 
 -- the bytes in front of the zeros
 pub padded-front : (k n : ℕ) (l : List ℕ) → length l ≡ n → take n (padded k l) ≡ l
@@ -58,3 +59,11 @@ sets-more b i p j h =
     ap (λ (k : ℕ). set (sets b i (take j p)) (i + k) (getD p j 0)) (sym l)
     ∙ sets-snoc b i (take j p) (getD p j 0)
     ∙ ap (sets b i) (sym (take-suc p j 0 h) ∙ ap (λ (m : ℕ). take m p) (sym (add-one j)))
+
+-- as many bytes as there are, 64 at most, are the first 64
+pub take-least : (n k : ℕ) (l : List ℕ) → k ≡ min (length l) n → take k l ≡ take n l
+take-least n k l e = go (decLe (length l) n)
+  where
+    go : Dec (length l ≤ n) → take k l ≡ take n l
+    go (yes h) = take-all k l (omega arith) ∙ sym (take-all n l h)
+    go (no h) = let m : k ≡ n = omega arith in ap (λ (j : ℕ). take j l) m
