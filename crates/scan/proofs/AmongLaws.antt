@@ -19,20 +19,20 @@ module _ (R : Rules) (M : Lawful R) where
   stable = front-stable (R .candidate) (R .acceptable) (M .shaped)
 
   -- where an acceptable datagram begins, the verdict hands it out
-  pub begins-hands : (u : List ℕ) (B : Begins (R .acceptable) u) → verdict R u ≡ hands (B .size)
+  begins-hands : (u : List ℕ) (B : Begins (R .acceptable) u) → verdict R u ≡ hands (B .size)
   begins-hands u B =
       ap (verdict R) (sym (take-append-drop (B .size) u))
       ∙ acceptable-hands (R .candidate) (R .acceptable) (M .shaped) (take (B .size) u) (drop (B .size) u) (B .made)
       ∙ ap hands (length-take-le (B .size) u (B .there))
 
   -- and where it hands out, one begins
-  pub hands-begins : (u : List ℕ) (n : ℕ) → verdict R u ≡ hands n → Begins (R .acceptable) u
+  hands-begins : (u : List ℕ) (n : ℕ) → verdict R u ≡ hands n → Begins (R .acceptable) u
   hands-begins u n e =
       let h = hands-acceptable (R .candidate) (R .acceptable) u n e in
       record { size = n; some = h .0; there = h .1; made = h .2 }
 
   -- a byte is passed over only where, whatever follows, none begins
-  pub passes-none : (u v : List ℕ) → verdict R u ≡ passes → Begins (R .acceptable) (u ++ v) → ⊥
+  passes-none : (u v : List ℕ) → verdict R u ≡ passes → Begins (R .acceptable) (u ++ v) → ⊥
   passes-none u v e B =
       let p : verdict R (u ++ v) ≡ passes = passes-on (R .candidate) (R .acceptable) u v e in
       let h : verdict R (u ++ v) ≡ hands (B .size) = begins-hands (u ++ v) B in

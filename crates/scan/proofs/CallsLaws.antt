@@ -45,7 +45,7 @@ module _ (verdict : List ℕ → Verdict) where
       go (finds n d r) ih = omega arith
 
   -- with a datagram among the bytes held, a call takes none
-  pub takes-none : (u p : List ℕ) {n : ℕ} {d r : List ℕ} → first verdict u ≡ finds n d r → takes verdict u p ≡ 0
+  takes-none : (u p : List ℕ) {n : ℕ} {d r : List ℕ} → first verdict u ≡ finds n d r → takes verdict u p ≡ 0
   unfolding takes
   takes-none u [] e = refl
   takes-none u (b ∷ p) e = rw e
@@ -206,7 +206,7 @@ module _ (R : Rules) (M : Lawful R) where
   fresh-sound = record { ruled = M .holds .undecided [] tt; sum = refl; most = omega arith }
 
   -- what a call leaves held may be held
-  pub held-after :
+  held-after :
       (u p : List ℕ) → R .mayHold u ≡ true → (f : First) → first (verdict R) (u ++ take (takes (verdict R) u p) p) ≡ f
       → R .mayHold (after fresh 0 f .held) ≡ true
   held-after u p e (ends n h) q = M .holds .undecided h (parted-at (verdict R) (stable R M) (u ++ take (takes (verdict R) u p) p) q .2)
@@ -214,7 +214,7 @@ module _ (R : Rules) (M : Lawful R) where
       behind-found (verdict R) (stable R M) (λ (r : List ℕ). R .mayHold r ≡ true) (M .holds .behind-next) u p (M .holds .behind-held u e) n d r q
 
   -- The session after a call is sound again: bytes fed = handed out + passed over + held
-  pub call-sound : (s : State) (p : List ℕ) → Sound R s → s .fed + length p ≤ R .limits .session → Sound R (call (verdict R) s p .next)
+  call-sound : (s : State) (p : List ℕ) → Sound R s → s .fed + length p ≤ R .limits .session → Sound R (call (verdict R) s p .next)
   unfolding call
   call-sound s p Z fits = go (first (verdict R) (s .held ++ take k p)) refl
     where

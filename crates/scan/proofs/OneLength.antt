@@ -8,7 +8,7 @@ use mathlib.Core.List.{List, [], _∷_, _++_, append-nil}
 use native.Mathlib.Nat.{add-zero, mul-add, mul-one, mul-zero}
 use native.Mathlib.Numerals.{add-one}
 use native.Mathlib.Omega.{arith}
-use borrow.Author.Tests.{ltb-true, eq-eqb, lt-ltb}
+use borrow.Author.Tests.{ltb-true, eq-eqb, ne-eqb, lt-ltb}
 use lib.Dec.{eqb, ltb}
 use lib.ListN.{length, take, drop, getD, length-append, length-drop}
 use lib.Seq.{length-take-le, take-length}
@@ -44,6 +44,14 @@ module _ (verdict : List ℕ → Verdict) (S : Stable verdict)
 
 -- ---- the rules of datagrams with one identifier and one length
 
+-- what a byte tells of the datagram that it begins
+module _ (identifier size b : ℕ) where
+  pub identifier-told : b ≡ identifier → oneCandidate identifier size b ≡ size
+  identifier-told e = rw (eq-eqb b identifier e)
+
+  pub other-told : (b ≡ identifier → ⊥) → oneCandidate identifier size b ≡ 0
+  other-told n = rw (ne-eqb b identifier n)
+
 module _ (identifier size : ℕ) (acceptable : List ℕ → Bool) (L : Limits) (some : 1 ≤ size)
     (long : (d : List ℕ) → acceptable d ≡ true → length d ≡ size) (begins : (d : List ℕ) → acceptable d ≡ true → getD d 0 0 ≡ identifier) where
   abbrev rules : Rules
@@ -61,7 +69,7 @@ module _ (identifier size : ℕ) (acceptable : List ℕ → Bool) (L : Limits) (
   shaped =
       record {
         some = λ d a. omega (arith, some, long d a);
-        long = λ d a. rw (eq-eqb (getD d 0 0) identifier (begins d a)) (sym (long d a));
+        long = λ d a. identifier-told identifier size (getD d 0 0) (begins d a) ∙ sym (long d a);
       }
 
   waits-fewer : (u : List ℕ) → verdict rules u ≡ waits → length u < size
@@ -172,7 +180,7 @@ module _ (R : Rules) (M : Lawful R) (P : Prompt R) where
       (λ n d r q. no-both (first-undecided (verdict R) u w) q)
 
   -- What a call finds, takes and leaves held can be had from the scan of the bytes held and the whole piece at once
-  pub call-at-once :
+  call-at-once :
       (s : State) (p : List ℕ) → Undecided (verdict R) (s .held) → call (verdict R) s p ≡ atOnce s p (first (verdict R) (s .held ++ p))
   unfolding call
   call-at-once s p w = go (first (verdict R) (s .held ++ take k p)) refl

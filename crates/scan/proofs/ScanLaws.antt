@@ -19,7 +19,7 @@ pub later-later : (m n : ℕ) (f : First) → later m (later n f) ≡ later (m +
 later-later m n (ends k h) = rw add-assoc
 later-later m n (finds k d r) = rw add-assoc
 
-pub passing-zero : (r : Scanned) → passing 0 r ≡ r
+passing-zero : (r : Scanned) → passing 0 r ≡ r
 passing-zero r = ap (λ (k : ℕ). record { datagrams = r .datagrams; passed = k; held = r .held }) (zero-add (r .passed))
 
 passing-passing : (m n : ℕ) (r : Scanned) → passing m (passing n r) ≡ passing (m + n) r

@@ -26,12 +26,12 @@ module _ (L : Limits) (n k : ℕ) where
   outcome-taken h l = rw (le-leb k (L .piece) h, le-leb (n + k) (L .session) l)
 
   -- one of the three it is
-  pub data Sorted : Type 0 where
+  data Sorted : Type 0 where
     over : L .piece < k → outcome L n k ≡ turnedDown (L .tooLong) → Sorted
     past : k ≤ L .piece → L .session < n + k → outcome L n k ≡ turnedDown 12 → Sorted
     taken : k ≤ L .piece → n + k ≤ L .session → outcome L n k ≡ takenWhole → Sorted
 
-  pub sorted : Sorted
+  sorted : Sorted
   sorted = go (decLe k (L .piece)) (decLe (n + k) (L .session))
     where
       go : Dec (k ≤ L .piece) → Dec (n + k ≤ L .session) → Sorted
@@ -111,24 +111,12 @@ reports-no-ten L ten n [] = tt
 reports-no-ten L ten n (p ∷ ps) =
     (outcome-not-ten L n (length p) ten, reports-no-ten L ten (n + length (takenBy (outcome L n (length p)) p)) ps)
 
--- the bytes taken of all pieces are the stream's
-abbrev pub takenOf : List Report → ℕ
-takenOf [] = 0
-takenOf (r ∷ rs) = r .taken + takenOf rs
-
-pub reports-taken : (L : Limits) (n : ℕ) (ps : List (List ℕ)) → takenOf (reports L n ps) ≡ length (stream L n ps)
-unfolding reports stream
-reports-taken L n [] = refl
-reports-taken L n (p ∷ ps) =
-    let q : List ℕ = takenBy (outcome L n (length p)) p in
-    omega (arith, reports-taken L (n + length q) ps, length-append q (stream L (n + length q) ps))
-
 -- Pieces that keep to the limits are all taken, joined
 abbrev pub Within : ℕ → List (List ℕ) → Type 0
 Within m [] = Unit {0}
 Within m (p ∷ ps) = (length p ≤ m) × Within m ps
 
-pub stream-joined :
+stream-joined :
     (L : Limits) (n : ℕ) (ps : List (List ℕ)) → Within (L .piece) ps → n + length (joined ps) ≤ L .session → stream L n ps ≡ joined ps
 unfolding stream
 stream-joined L n [] w h = refl
@@ -138,7 +126,7 @@ stream-joined L n (p ∷ ps) w h =
     ∙ ap (λ (v : List ℕ). p ++ v) (stream-joined L (n + length p) ps (w .1) (omega arith))
 
 -- Every list of at most a session's bytes is the stream of some list of pieces: its bytes one by one
-abbrev pub singly : List ℕ → List (List ℕ)
+abbrev singly : List ℕ → List (List ℕ)
 singly [] = []
 singly (b ∷ u) = (b ∷ []) ∷ singly u
 

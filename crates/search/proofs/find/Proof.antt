@@ -7,7 +7,6 @@ use mathlib.Core.Logic.{⊎-elim}
 use native.Mathlib.Nat.{add-zero}
 use native.Mathlib.Omega.{arith}
 use borrow.Author.Needs.{needs}
-use borrow.Author.Tests.{eq-eqb, ne-eqb}
 use lib.ListN.{length, take, drop, length-drop, drop-of-length-le}
 use lib.Seq.{length-take-le}
 use Rattle.integers.specs.Bytes.{AllBytes}
@@ -17,9 +16,10 @@ use Rattle.setup.specs.declared.Setup.{Setup}
 use Rattle.wire.specs.Acceptable.{acceptable}
 use Rattle.scan.specs.Scan.{first, later}
 use Rattle.scan.proofs.ScanLaws.{later-zero, later-later}
+use Rattle.scan.proofs.OneLength.{identifier-told, other-told}
 use Rattle.scan.proofs.PlaceLaws.{passes-other, passes-wrong, holds-short, hands-right}
 use Rattle.search.specs.declared.Place.the-variants.{Complete, Undecided}
-use Rattle.search.specs.Search.{candidateOf, isDatagram, rulesOf, verdictOf, placeOf}
+use Rattle.search.specs.Search.{isDatagram, rulesOf, verdictOf, placeOf}
 use Rattle.search.proofs.ByteLists.{bytes-datagram}
 use Rattle.search.proofs.Datagrams.{datagram-some}
 use Rattle.search.proofs.Places.{part-of}
@@ -35,13 +35,6 @@ tested u p i size h l e =
     ∙ ap (λ (n : ℕ). acceptable u (take n (drop i p))) (sym l)
     ∙ ap (acceptable u) (sym (part-of p i size))
     ∙ e
-
--- what a byte tells of the datagram that it begins
-identifier-told : (u : Setup) (b : ℕ) → b ≡ u .identifier → candidateOf u b ≡ lengthOf u
-identifier-told u b e = rw (eq-eqb b (u .identifier) e)
-
-other-told : (u : Setup) (b : ℕ) → (b ≡ u .identifier → ⊥) → candidateOf u b ≡ 0
-other-told u b n = rw (ne-eqb b (u .identifier) n)
 
 abbrev Inv-loop : tie.InvT-loop
 Inv-loop setup bytes identifier size i₀ i =
@@ -69,7 +62,8 @@ returns c =
     let u = a .setup in
     let p = a .bytes .now in
     let size = c .before .before .before .before .before .length-of .ensures in
-    let e = holds-short (rulesOf u) p (l .i) (omega arith) (identifier-told u _ (c .before .if1 .taken)) (omega (arith, size, c .if2 .taken)) in
+    let told = identifier-told (u .identifier) (lengthOf u) _ (c .before .if1 .taken) in
+    let e = holds-short (rulesOf u) p (l .i) (omega arith) told (omega (arith, size, c .if2 .taken)) in
     ap Undecided (sym (add-zero (l .i))) ∙ sym (ap placeOf (l .inv .0 ∙ ap (later (l .i)) e))
 
 add-end : tie.Need-add-end Inv-loop μ-loop
@@ -100,8 +94,8 @@ returns-2 c =
     let enough : lengthOf u ≤ length p - l .i = omega (arith, size, c .before .before .before .if2 .left) in
     let long : length (take (lengthOf u) (drop (l .i) p)) ≡ lengthOf u =
     length-take-le (lengthOf u) (drop (l .i) p) (omega (arith, length-drop (l .i) p)) in
-    let e = hands-right (rulesOf u) p (l .i) (omega arith) (identifier-told u _ (c .before .before .before .before .if1 .taken))
-    (omega (arith, datagram-some u _ right)) enough right in
+    let told = identifier-told (u .identifier) (lengthOf u) _ (c .before .before .before .before .if1 .taken) in
+    let e = hands-right (rulesOf u) p (l .i) (omega arith) told (omega (arith, datagram-some u _ right)) enough right in
     ap (Complete (l .i)) (size ∙ sym long)
     ∙ ap (λ (n : ℕ). Complete n (length (take (lengthOf u) (drop (l .i) p)))) (sym (add-zero (l .i)))
     ∙ sym (ap placeOf (l .inv .0 ∙ ap (later (l .i)) e))
@@ -124,9 +118,9 @@ loop-again c =
     let e : first (verdictOf u) (drop (l .i) p) ≡ later 1 (first (verdictOf u) (drop (l .i + 1) p)) =
     ⊎-elim
     (λ w.
-    passes-wrong (rulesOf u) p (l .i) h (identifier-told u _ (w .0 .taken)) (omega (arith, size, w .1 .left))
+    passes-wrong (rulesOf u) p (l .i) h (identifier-told (u .identifier) (lengthOf u) _ (w .0 .taken)) (omega (arith, size, w .1 .left))
     (tested u p (l .i) _ all size (sym (w .3 .ensures) ∙ w .4 .left)))
-    (λ w. passes-other (rulesOf u) p (l .i) h (other-told u _ (w .left)) refl)
+    (λ w. passes-other (rulesOf u) p (l .i) h (other-told (u .identifier) (lengthOf u) _ (w .left)) refl)
     (c .if1 .came) in
     (l .inv .0 ∙ ap (later (l .i)) e ∙ later-later (l .i) 1 (first (verdictOf u) (drop (l .i + 1) p)), omega arith)
 
