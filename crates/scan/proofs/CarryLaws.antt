@@ -1,15 +1,16 @@
 -- Laws of a session that carries more than the scan: a refused call, and what comes back with each datagram by its place.
 -- Assumes nothing.
-use Prim.Native.Nat.{ℕ, zero, suc, _+_, _≤_, _<_}
+use Prim.Native.Nat.{ℕ, zero, suc, _+_, _*_, _≤_, _<_}
 use mathlib.Core.Path.{_≡_, refl, sym, ap}
 use mathlib.Core.Bool.{Bool, true, false}
 use mathlib.Core.List.{List, [], _∷_}
-use native.Mathlib.Nat.{add-zero}
+use native.Mathlib.Nat.{add-zero, mul-add, mul-one, mul-zero}
+use native.Mathlib.Numerals.{add-one}
 use native.Mathlib.Omega.{arith}
-use lib.ListN.{length, take, getD}
+use lib.ListN.{length, take, getD, length-append}
 use Rattle.scan.specs.Rules.{Rules, verdict}
 use Rattle.scan.specs.Calls.{State, Answer, datagram, waiting, refused, refusing, feed}
-use Rattle.scan.specs.Stream.{Among, end, other, then}
+use Rattle.scan.specs.Stream.{joined, Among, end, other, then}
 use Rattle.scan.specs.Carry.{Consumer, steps, tells, told, carriedAfter, reply, Session, carrying}
 use Rattle.scan.proofs.CallsLaws.{call-fed, feed-unsound, View, over, past, made, view, refused-same}
 
@@ -65,3 +66,20 @@ among-each end i h = absurd (omega arith)
 among-each (other n a) i h = among-each a i h
 among-each (then e a) zero h = e
 among-each (then e a) (suc i) h = among-each a i (omega arith)
+
+-- of n bytes each at least, they take so many together
+pub joined-least :
+    {acceptable : List ℕ → Bool} (n : ℕ) → ((d : List ℕ) → acceptable d ≡ true → n ≤ length d)
+    → {v : List ℕ} {ds : List (List ℕ)} → Among acceptable v ds → n * length ds ≤ length (joined ds)
+joined-least n least end = omega (arith, mul-zero n)
+joined-least n least (other x a) = joined-least n least a
+joined-least n least (then {d = d} {ds = ds} e a) =
+    omega (
+      arith,
+      length-append d (joined ds),
+      least d e,
+      joined-least n least a,
+      mul-add n (length ds) 1,
+      mul-one n,
+      ap (λ (k : ℕ). n * k) (add-one (length ds)),
+    )

@@ -24,8 +24,9 @@ module _ (u : Setup) (d : List ℕ) (good : isDatagram u d ≡ true) where
   pub datagram-first : getD d 0 0 ≡ u .identifier
   datagram-first = accepted u d (datagram-parts u d good .1) .first
 
-  pub datagram-some : 1 ≤ length d
-  datagram-some = omega (arith, accepted-length u d (datagram-parts u d good .1) .0)
+  -- 18 bytes at least
+  pub datagram-least : 18 ≤ length d
+  datagram-least = accepted-length u d (datagram-parts u d good .1) .0
 
 module _ (u : Setup) (a : rulingOn u ≡ Accepted) where
   some : 1 ≤ lengthOf u

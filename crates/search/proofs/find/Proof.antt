@@ -21,7 +21,7 @@ use Rattle.scan.proofs.PlaceLaws.{passes-other, passes-wrong, holds-short, hand
 use Rattle.search.specs.declared.Place.the-variants.{Complete, Undecided}
 use Rattle.search.specs.Search.{isDatagram, rulesOf, verdictOf, placeOf}
 use Rattle.search.proofs.ByteLists.{bytes-datagram}
-use Rattle.search.proofs.Datagrams.{datagram-some}
+use Rattle.search.proofs.Datagrams.{datagram-least}
 use Rattle.search.proofs.Places.{part-of}
 use Rattle.search.proofs.find.Statement.{statement}
 use Rattle.search.proofs.find.Tie as tie
@@ -95,7 +95,7 @@ returns-2 c =
     let long : length (take (lengthOf u) (drop (l .i) p)) ≡ lengthOf u =
     length-take-le (lengthOf u) (drop (l .i) p) (omega (arith, length-drop (l .i) p)) in
     let told = identifier-told (u .identifier) (lengthOf u) _ (c .before .before .before .before .if1 .taken) in
-    let e = hands-right (rulesOf u) p (l .i) (omega arith) told (omega (arith, datagram-some u _ right)) enough right in
+    let e = hands-right (rulesOf u) p (l .i) (omega arith) told (omega (arith, datagram-least u _ right)) enough right in
     ap (Complete (l .i)) (size ∙ sym long)
     ∙ ap (λ (n : ℕ). Complete n (length (take (lengthOf u) (drop (l .i) p)))) (sym (add-zero (l .i)))
     ∙ sym (ap placeOf (l .inv .0 ∙ ap (later (l .i)) e))
