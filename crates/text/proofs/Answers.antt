@@ -1,15 +1,16 @@
 -- The answer and the buffer of a line, case by case in checking order.
 use mathlib.Core.Path.{_≡_, refl, ap, _∙_}
-use mathlib.Core.Bool.{Bool, true, false, not, _||_}
+use mathlib.Core.Bool.{true, false, not, _||_}
 use mathlib.Core.List.{List, _++_}
 use Prim.Native.Nat.{ℕ, _+_, _≤_, _<_}
 use native.Mathlib.Nat.{zero-add}
 use native.Mathlib.Omega.{arith}
-use borrow.Author.Tests.{lt-ltb, le-ltb}
+use borrow.Author.Tests.{not-false, lt-ltb, le-ltb}
 use lib.Dec.{eqb}
 use lib.IntN.{ℤ}
 use lib.ListN.{length, take, drop}
 use lib.Seq.{sets, sets-eq, paste, take-length, take-at}
+use Rattle.integers.proofs.Booleans.{or-split}
 use Rattle.setup.specs.Setup.{setupRules, rulingOn}
 use Rattle.setup.specs.declared.Setup.{Setup}
 use Rattle.setup.specs.declared.Ruling as ruling
@@ -46,16 +47,16 @@ module _ (b text : List ℕ) where
 
 -- ---- the line
 
-inside-by : (r t z : Bool) → (not r || not t || z) ≡ false → (r ≡ true) × (t ≡ true) × (z ≡ false)
-inside-by true true z e = (refl, refl, e)
-inside-by true false z e = let n : _≡_ {A = ℕ} 0 1 = cc in absurd (omega arith)
-inside-by false t z e = let n : _≡_ {A = ℕ} 0 1 = cc in absurd (omega arith)
-
 -- what 13 doesn't refuse
 pub inside : (ordinal : ℕ) (readings : List (List ℤ)) (totals : Totals) → outside ordinal readings totals ≡ false
     → (readingsFit readings ≡ true) × (totalsWithin totals ≡ true) × (eqb ordinal 0 ≡ false)
 unfolding outside
-inside ordinal readings totals e = inside-by (readingsFit readings) (totalsWithin totals) (eqb ordinal 0) e
+inside ordinal readings totals e =
+    let r = readingsFit readings in
+    let t = totalsWithin totals in
+    let z = or-split (not r || not t) (eqb ordinal 0) e in
+    let p = or-split (not r) (not t) (z .0) in
+    (not-false r (p .0), not-false t (p .1), z .1)
 
 module _ (b : List ℕ) (setup : Setup) (ordinal counter latency : ℕ) (gap : Gap) (readings : List (List ℤ)) (statuses : List ℕ) (totals : Totals) where
   abbrev text : List ℕ

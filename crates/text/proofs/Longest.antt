@@ -8,7 +8,8 @@ use lib.IntN.{ℤ, pos, negsuc, natAbs}
 use lib.ListN.{length, length-append, getD}
 use Rattle.integers.specs.Ranges.{inReading}
 use Rattle.integers.proofs.Parts.{natAbs-parts, parts-apart}
-use Rattle.integers.proofs.Ranges.{and-split, within-true, inReading-true}
+use Rattle.integers.proofs.Booleans.{and-split}
+use Rattle.integers.proofs.Ranges.{within-true, inReading-true}
 use Rattle.setup.specs.Layout.{groupsCarried}
 use Rattle.setup.specs.declared.Setup.{Setup}
 use Rattle.motion.specs.Totals.{groupsKept}

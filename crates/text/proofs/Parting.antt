@@ -8,6 +8,7 @@ use borrow.Author.Tests.{ne-eqb}
 use lib.Dec.{eqb}
 use lib.IntN.{ℤ, pos, negsuc}
 use lib.ListN.{length, getD, replicate}
+use Rattle.integers.proofs.Booleans.{and-split, and-true}
 use Rattle.setup.specs.Layout.{groupsCarried}
 use Rattle.setup_line.specs.SetupLine.{fieldsOf}
 use Rattle.setup.specs.declared.Setup.{Setup}
@@ -37,11 +38,7 @@ free-cons x b t h e = rw (ne-eqb b x h, e)
 free-append : (x : ℕ) (s t : List ℕ) → free x s ≡ true → free x t ≡ true → free x (s ++ t) ≡ true
 unfolding free
 free-append x [] t e f = f
-free-append x (b ∷ s) t e f = by (eqb b x) e (free-append x s t)
-  where
-    by : (z : Bool) → (not z && free x s) ≡ true → (free x s ≡ true → free x t ≡ true → free x (s ++ t) ≡ true) → (not z && free x (s ++ t)) ≡ true
-    by true e next = e
-    by false e next = next e f
+free-append x (b ∷ s) t e f = let p = and-split (not (eqb b x)) (free x s) e in and-true (p .0) (free-append x s t (p .1) f)
 
 -- ---- the fields are free of what is below `-`, so of comma and line end
 

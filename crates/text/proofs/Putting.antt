@@ -2,18 +2,13 @@
 use mathlib.Core.Path.{_≡_, refl, sym, ap, _∙_}
 use mathlib.Core.List.{List, [], _∷_, _++_}
 use Prim.Native.Nat.{ℕ, suc, _+_, _≤_}
-use native.Mathlib.Nat.{add-zero, add-suc, suc-add}
+use native.Mathlib.Nat.{add-zero}
 use native.Mathlib.Numerals.{add-one}
 use native.Mathlib.Omega.{arith}
 use lib.ListN.{length, length-append, set}
-use lib.Seq.{sets, length-sets}
+use lib.Seq.{length-sets}
+use Rattle.integers.proofs.Buffers.{sets-append}
 use Rattle.text.specs.Putting.{Put}
-
-sets-append : (b : List ℕ) (i : ℕ) (xs ys : List ℕ) → sets b i (xs ++ ys) ≡ sets (sets b i xs) (i + length xs) ys
-sets-append b i [] ys = ap (λ (k : ℕ). sets b k ys) (sym (add-zero i))
-sets-append b i (x ∷ xs) ys =
-    sets-append (set b i x) (suc i) xs ys
-    ∙ ap (λ (k : ℕ). sets (sets (set b i x) (suc i) xs) k ys) (suc-add i (length xs) ∙ sym (add-suc i (length xs)))
 
 -- nothing
 pub put-none : {b : List ℕ} {at : ℕ} → Put b at [] b at
