@@ -2,7 +2,7 @@
 use Prim.Native.Nat.{ℕ, zero, suc, _+_, _-_, _≤_, _<_, min}
 use mathlib.Core.Path.{_≡_, refl, sym, ap, _∙_}
 use mathlib.Core.List.{List, [], _∷_, _++_, append-assoc, append-nil}
-use native.Mathlib.Nat.{add-zero, add-suc, suc-add}
+use native.Mathlib.Nat.{add-zero, zero-add, add-suc, suc-add}
 use native.Mathlib.Numerals.{add-one}
 use native.Mathlib.Decide.{decLe}
 use native.Mathlib.Omega.{arith}
@@ -96,7 +96,11 @@ sets-more b i p j h =
     ∙ sym (sets-append b i (take j p) (getD p j 0 ∷ []))
     ∙ ap (sets b i) (sym (take-suc p j 0 h) ∙ ap (λ (m : ℕ). take m p) (sym (add-one j)))
 
--- a text at the front of the part from a place on
+-- a text at the front of a buffer
+pub put-front : (b text : List ℕ) → length text ≤ length b → sets b 0 text ≡ text ++ drop (length text) b
+put-front b text h = sets-eq text b 0 (omega arith) ∙ rw (zero-add (length text))
+
+-- and at the front of the part from a place on
 pub put-part :
     (b text : List ℕ) (a : ℕ) → a + length text ≤ length b
     → putMid a (length b - a) b (text ++ drop (length text) (midOf a (length b - a) b)) ≡ sets b a text
