@@ -1,11 +1,11 @@
 -- The zero bytes at the end: how many they are, and that a list with them reads as the list past its end.
 -- Assumes nothing.
 use mathlib.Core.Path.{_≡_, refl}
-use mathlib.Core.List.{List, [], _∷_, _++_, append-nil}
+use mathlib.Core.List.{List, append-nil}
 use Prim.Native.Nat.{ℕ, zero, suc, _+_, _-_, _*_, _/_, _%_, _<_}
 use native.Mathlib.Nat.{add-zero, suc-mul, div-add-mod', mod-lt, mod-self, mod-eq-of-lt, mul-mod-left}
 use native.Mathlib.Omega.{arith}
-use lib.ListN.{length, getD, replicate, length-append, length-replicate}
+use lib.ListN.{length, getD, length-append, length-replicate}
 use Rattle.integers.specs.Bytes.{AllBytes}
 use Rattle.integers.proofs.Buffers.{zeros-behind-at}
 use Rattle.crc.specs.Check.{padding, covered}

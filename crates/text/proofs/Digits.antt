@@ -1,7 +1,7 @@
 -- What the decimal text of a number is: the text of a single digit, and that of a longer number from a shorter one; and what follows of every
 -- text: it writes the number, has digits only and no leading zero, and is so long at most.
 use mathlib.Core.Path.{_≡_, refl, sym, ap, _∙_, subst}
-use mathlib.Core.Bool.{Bool, true, false, _&&_}
+use mathlib.Core.Bool.{true}
 use mathlib.Core.List.{List, [], _∷_, _++_, append-assoc}
 use mathlib.Core.WellFounded.{Acc, Acc·intro, Acc-prop, recursion}
 use Prim.Native.Nat.{ℕ, zero, suc, _+_, _*_, _/_, _%_, _^_, _≤_, _<_}
