@@ -11,7 +11,7 @@ use native.Mathlib.Omega.{arith}
 use lib.Dec.{T, ltb, leb, leb→le, leb·suc-suc}
 use lib.IntN.{ℤ, pos, negsuc, negℤ, natAbs, subℕ, _+ℤ_, _-ℤ_, _*ℤ_}
 use lib.Signed.{mag, nonNeg, leZ, ltZ, pos-natAbs, _≤ℤ_}
-use borrow.Author.Tests.{ltb-true, ltb-false, leb-true, leb-false, lt-ltb, le-ltb, le-leb, lt-leb}
+use borrow.Author.Tests.{ltb-true, ltb-false, leb-true, lt-ltb, le-ltb, le-leb, lt-leb}
 
 abbrev pub posPart : ℤ → ℕ
 posPart (pos n) = n
@@ -131,9 +131,6 @@ module _ (x y : ℤ) where
 
   pub leZ-true : leZ x y ≡ true → posPart x + negPart y ≤ posPart y + negPart x
   leZ-true e = leb-true (posPart x + negPart y) (posPart y + negPart x) (sym (leZ-parts x y) ∙ e)
-
-  pub leZ-false : leZ x y ≡ false → posPart y + negPart x < posPart x + negPart y
-  leZ-false e = leb-false (posPart x + negPart y) (posPart y + negPart x) (sym (leZ-parts x y) ∙ e)
 
   pub le-leZ : posPart x + negPart y ≤ posPart y + negPart x → leZ x y ≡ true
   le-leZ h = leZ-parts x y ∙ le-leb (posPart x + negPart y) (posPart y + negPart x) h

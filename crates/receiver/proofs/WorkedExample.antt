@@ -10,7 +10,7 @@ use lib.IntN.{ℤ, pos}
 use lib.ListN.{getD, replicate}
 use Rattle.integers.specs.Bytes.{bigEndian, twosComplement, signedBytes}
 use Rattle.integers.specs.Folding.{fold}
-use Rattle.crc.specs.Check.{stim300, shift, shifts, byteStep, register, padding, padded, checkOf, check32}
+use Rattle.crc.specs.Check.{stim300, shift, shifts, byteStep, register, padding, covered, checkOf, check32}
 use Rattle.setup.specs.Layout.{partsAt, layoutOf, groupsCarried}
 use Rattle.setup.specs.Setup.{setupRules, rulingOn, lengthOf}
 use Rattle.setup.specs.declared.Setup.{Setup}
@@ -80,7 +80,7 @@ reports-example = refl
 scan-example : scan (verdictOf example) (streamOf example pieces) .datagrams ≡ datagrams
 unfolding
     stream outcome scanFrom front isDatagram areBytes acceptable checkRight endingRight lengthOf layoutOf partsAt bigEndian check32 checkOf stim300
-    padded padding register byteStep shifts shift
+    covered padding register byteStep shifts shift
 scan-example = refl
 
 among-example : Among (isDatagram example) (streamOf example pieces) datagrams
