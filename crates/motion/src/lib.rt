@@ -250,14 +250,14 @@ fn lifted(x: i32) -> u64
 }
 
 // The difference of two readings modulo 2^24, in -8388608 .. 8388607.
-fn difference(new: i32, old: i32) -> i64
+fn difference(new: i32, old: i32) -> i32
     ensures { λ r. ⌜ r ≡ difference new old ⌝ }
 {
     let d = std::num::wrapping_sub_u64(lifted(new), lifted(old)) % 16777216;
     if d < 8388608 {
-        d as i64
+        d as i32
     } else {
-        (d as i64) - 16777216
+        (d as i32) - 16777216
     }
 }
 
@@ -270,7 +270,7 @@ fn fit_step(axis: Axis, reading: i32) -> Axis
     if begun {
         let last = axis.last;
         let total = axis.total;
-        let sum = total + difference(reading, last);
+        let sum = total + (difference(reading, last) as i64);
         Axis {
             begun: true,
             last: reading,
