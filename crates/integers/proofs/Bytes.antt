@@ -2,11 +2,11 @@
 use mathlib.Core.Path.{_≡_, refl, sym, ap, _∙_, subst}
 use mathlib.Core.Bool.{Bool, true, false}
 use mathlib.Core.List.{List, [], _∷_, _++_}
-use Prim.Native.Nat.{ℕ, zero, suc, _+_, _-_, _*_, _/_, _%_, _^_, _≤_, _<_}
-use native.Mathlib.Nat.{suc-mul, mul-le-mul-right, lt-of-lt-of-le, mod-eq-of-lt}
+use Prim.Native.Nat.{ℕ, zero, suc, _+_, _*_, _/_, _%_, _^_, _≤_, _<_}
+use native.Mathlib.Nat.{suc-mul, mul-le-mul-right, lt-of-lt-of-le}
 use native.Mathlib.Omega.{arith}
 use lib.Dec.{ltb}
-use lib.IntN.{ℤ, pos, negsuc, _-ℤ_}
+use lib.IntN.{ℤ, pos, _-ℤ_}
 use lib.ListN.{length, take, drop, getD}
 use lib.Pow.{pow-add, pow-mono, high, low}
 use lib.Seq.{getD-drop, drop-cons}
@@ -14,9 +14,8 @@ use mir.Syntax.{Width}
 use mir.Val.{hbits, SFits, ofZ, toZ}
 use mir.ValLaws.{toZ-pos, toZ-ofZ}
 use borrow.Author.Tests.{lt-ltb, le-ltb, ltb-true, ltb-false}
-use Rattle.integers.specs.Rounding.{residue}
 use Rattle.integers.specs.Bytes.{AllBytes, bigEndian, twosComplement, signedBytes}
-use Rattle.integers.proofs.Parts.{posPart, negPart, parts-apart, parts-ext, sub-parts}
+use Rattle.integers.proofs.Parts.{posPart, negPart, parts-apart, sub-parts}
 use Rattle.integers.proofs.Signed.{sfits-of-parts}
 
 -- ---- lists of bytes
@@ -90,7 +89,8 @@ bigEndian-injective (x ∷ xs) (y ∷ ys) h k l e =
     let p = 8 * length xs in
     let r : bigEndian xs < 2 ^ p = bigEndian-below xs (bytes-tail h) in
     let q : bigEndian ys < 2 ^ p = subst (λ (n : ℕ). bigEndian ys < 2 ^ (8 * n)) (sym m) (bigEndian-below ys (bytes-tail k)) in
-    let f : x * 2 ^ p + bigEndian xs ≡ y * 2 ^ p + bigEndian ys = subst (λ (n : ℕ). x * 2 ^ p + bigEndian xs ≡ y * 2 ^ (8 * n) + bigEndian ys) (sym m) e in
+    let f : x * 2 ^ p + bigEndian xs ≡ y * 2 ^ p + bigEndian ys =
+    subst (λ (n : ℕ). x * 2 ^ p + bigEndian xs ≡ y * 2 ^ (8 * n) + bigEndian ys) (sym m) e in
     let first : x ≡ y = sym (high x p r) ∙ ap (λ (n : ℕ). n / 2 ^ p) f ∙ high y p q in
     let rest : bigEndian xs ≡ bigEndian ys = sym (low x p r) ∙ ap (λ (n : ℕ). n % 2 ^ p) f ∙ low y p q in
     let tail : xs ≡ ys = bigEndian-injective xs ys (bytes-tail h) (bytes-tail k) m rest in
@@ -106,12 +106,6 @@ twosComplement-low w n h = rw (lt-ltb (2 * n) (2 ^ w) h)
 pub twosComplement-high : (w n : ℕ) → 2 ^ w ≤ 2 * n → twosComplement w n ≡ pos n -ℤ pos (2 ^ w)
 unfolding twosComplement
 twosComplement-high w n h = rw (le-ltb (2 * n) (2 ^ w) h)
-
-half-below : (p n : ℕ) → 2 * n < p → n < p
-half-below p n h = omega arith
-
-sub-below : (p n : ℕ) → n < p → p - suc n < p
-sub-below p n h = omega arith
 
 -- z is in the range of w bits, and n up to a multiple of 2 ^ w
 pub record Complement (w n : ℕ) (z : ℤ) : Type 0 where
@@ -133,18 +127,6 @@ twosComplement-range w n h = by (ltb (2 * n) (2 ^ w)) refl
         let s = sub-parts (pos n) (pos (2 ^ w)) in
         let a = parts-apart z in
         rw (twosComplement-high w n l) (record { above = omega arith; below = omega arith; carry = 1; same = omega arith })
-
--- and back: the bits of a number are its residue
-pub residue-twosComplement : (w n : ℕ) → n < 2 ^ w → residue (twosComplement w n) (2 ^ w) ≡ n
-residue-twosComplement w n h = by (ltb (2 * n) (2 ^ w)) refl
-  where
-    by : (t : Bool) → ltb (2 * n) (2 ^ w) ≡ t → residue (twosComplement w n) (2 ^ w) ≡ n
-    by true e = rw (twosComplement-low w n (ltb-true (2 * n) (2 ^ w) e)) (mod-eq-of-lt h)
-    by false e =
-        let a = 2 ^ w - suc n in
-        let m : a % 2 ^ w ≡ a = mod-eq-of-lt (sub-below (2 ^ w) n h) in
-        let s : pos n -ℤ pos (2 ^ w) ≡ negsuc a = parts-ext (pos n -ℤ pos (2 ^ w)) (negsuc a) (omega (arith, sub-parts (pos n) (pos (2 ^ w)))) in
-        rw (twosComplement-high w n (ltb-false (2 * n) (2 ^ w) e), s) (omega arith)
 
 pub signedBytes-range : (bs : List ℕ) → AllBytes bs → Complement (8 * length bs) (bigEndian bs) (signedBytes bs)
 unfolding signedBytes
