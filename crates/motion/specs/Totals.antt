@@ -48,6 +48,16 @@ keptStep kept a d = cond (kept && within (2 ^ 53) (a .total)) (axisStep a d) a
 
 -- ---- the nine axes; groups are gyro 0, accelerometer 1, inclinometer 2, and axes X 0, Y 1, Z 2
 
+-- an axis to which no fit datagram came, a group of them, and all nine
+abbrev pub noAxis : Axis
+noAxis = record { begun = false; last = pos 0; total = pos 0 }
+
+abbrev pub noGroup : GroupAxes
+noGroup = record { x = noAxis; y = noAxis; z = noAxis }
+
+abbrev pub noAxes : Axes
+noAxes = record { gyro = noGroup; accelerometer = noGroup; inclinometer = noGroup }
+
 -- a total is kept for each axis of a carried group set to integrated
 abbrev pub keeps : Setup → ℕ → Bool
 keeps s group = getD (groupsCarried (s .identifier)) group false && eqb (getD (s .units) group 0) 3

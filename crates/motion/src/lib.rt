@@ -6,7 +6,8 @@ ghost use lib.IntN.{pos, natAbs, _+ℤ_};
 ghost use Rattle.motion.specs.Status.{fitAxes, flagged};
 ghost use Rattle.motion.specs.Doubles.{quotient, knownShift, valuesIn, knownUnit, valuesOf, groupValues};
 ghost use Rattle.motion.specs.Gaps.{knownRate, elapsed, missedAfter, gapBetween};
-ghost use Rattle.motion.specs.Totals.{difference, fitStep, keptStep, groupsKept, groupStep, stepped, totalOf, groupTotals, totalsOf, totalDouble, groupDoubles, totalDoubles};
+ghost use Rattle.motion.specs.Totals.{difference, fitStep, keptStep, noAxes, groupsKept, groupStep, stepped};
+ghost use Rattle.motion.specs.Totals.{totalOf, groupTotals, totalsOf, totalDouble, groupDoubles, totalDoubles};
 use setup::Setup;
 
 // A count of internal samples, 2,000 a second.
@@ -240,6 +241,27 @@ pub fn kept_groups(setup: Setup) -> [bool; 3]
         carried[1] & (units[1] == 3),
         carried[2] & (units[2] == 3),
     ]
+}
+
+// Nine axes to which no fit datagram came.
+pub fn no_axes() -> Axes
+    ensures { λ r. ⌜ r ≡ noAxes ⌝ }
+{
+    let axis = Axis {
+        begun: false,
+        last: 0,
+        total: 0,
+    };
+    let group = GroupAxes {
+        x: axis,
+        y: axis,
+        z: axis,
+    };
+    Axes {
+        gyro: group,
+        accelerometer: group,
+        inclinometer: group,
+    }
 }
 
 // x + 2^31, which is not negative.
