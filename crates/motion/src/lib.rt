@@ -10,6 +10,9 @@ ghost use Rattle.motion.specs.Totals.{difference, fitStep, keptStep, noA
 ghost use Rattle.motion.specs.Totals.{totalOf, groupTotals, totalsOf, totalDouble, groupDoubles, totalDoubles};
 use setup::Setup;
 
+// The greatest size of a total, 2^53: up to it every total is a double.
+const GREATEST_TOTAL: u64 = 9007199254740992;
+
 // A count of internal samples, 2,000 a second.
 pub struct Samples(pub u32);
 
@@ -312,7 +315,7 @@ fn kept_step(kept: bool, axis: Axis, fit: bool, reading: i32) -> Axis
     ensures { λ r. ⌜ r ≡ keptStep kept axis (record { fit = fit; reading = reading }) ⌝ }
 {
     let total = axis.total;
-    let counts = kept & integers::is_within(total, 9007199254740992);
+    let counts = kept & integers::is_within(total, GREATEST_TOTAL);
     if !(counts & fit) {
         return axis;
     }
@@ -393,7 +396,7 @@ fn total_double(axis: Axis, shift: u16) -> f64
 {
     let total = axis.total;
     let k = known_shift(shift);
-    if integers::is_within(total, 9007199254740992) {
+    if integers::is_within(total, GREATEST_TOTAL) {
         return steps_double(total, k);
     }
     0.0
