@@ -54,8 +54,8 @@ valuesIn unit.the-variants.Integrated x y z = Integrated x y z
 -- the values of a group from its unit, its shift and its readings
 unfoldable pub valuesOf : Unit → ℕ → List ℤ → Values
 valuesOf unit shift readings =
-    valuesIn unit (quotient (getD readings 0 (pos 0)) (knownShift shift)) (quotient (getD readings 1 (pos 0)) (knownShift shift))
-    (quotient (getD readings 2 (pos 0)) (knownShift shift))
+    let double : ℕ → Float = λ axis. quotient (getD readings axis (pos 0)) (knownShift shift) in
+    valuesIn unit (double 0) (double 1) (double 2)
 
 -- the unit and the shift of a group
 abbrev pub unitIn : Units → ℕ → Unit
