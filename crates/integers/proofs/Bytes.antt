@@ -2,7 +2,7 @@
 use mathlib.Core.Path.{_≡_, refl, sym, ap, _∙_, subst}
 use mathlib.Core.Bool.{Bool, true, false}
 use mathlib.Core.List.{List, [], _∷_, _++_}
-use Prim.Native.Nat.{ℕ, zero, suc, _+_, _-_, _*_, _/_, _%_, _^_, _≤_, _<_}
+use Prim.Native.Nat.{ℕ, zero, suc, _+_, _*_, _/_, _%_, _^_, _≤_, _<_}
 use native.Mathlib.Nat.{suc-mul, mul-le-mul-right, lt-of-lt-of-le}
 use native.Mathlib.Omega.{arith}
 use lib.Dec.{ltb}
@@ -89,7 +89,8 @@ bigEndian-injective (x ∷ xs) (y ∷ ys) h k l e =
     let p = 8 * length xs in
     let r : bigEndian xs < 2 ^ p = bigEndian-below xs (bytes-tail h) in
     let q : bigEndian ys < 2 ^ p = subst (λ (n : ℕ). bigEndian ys < 2 ^ (8 * n)) (sym m) (bigEndian-below ys (bytes-tail k)) in
-    let f : x * 2 ^ p + bigEndian xs ≡ y * 2 ^ p + bigEndian ys = subst (λ (n : ℕ). x * 2 ^ p + bigEndian xs ≡ y * 2 ^ (8 * n) + bigEndian ys) (sym m) e in
+    let f : x * 2 ^ p + bigEndian xs ≡ y * 2 ^ p + bigEndian ys =
+    subst (λ (n : ℕ). x * 2 ^ p + bigEndian xs ≡ y * 2 ^ (8 * n) + bigEndian ys) (sym m) e in
     let first : x ≡ y = sym (high x p r) ∙ ap (λ (n : ℕ). n / 2 ^ p) f ∙ high y p q in
     let rest : bigEndian xs ≡ bigEndian ys = sym (low x p r) ∙ ap (λ (n : ℕ). n % 2 ^ p) f ∙ low y p q in
     let tail : xs ≡ ys = bigEndian-injective xs ys (bytes-tail h) (bytes-tail k) m rest in

@@ -8,16 +8,16 @@ use lib.Dec.{eqb, ltb, leb}
 use lib.ListN.{getD}
 use borrow.Author.Tests.{eqb-true, lt-ltb, leb-true}
 use Rattle.integers.proofs.Ranges.{and-split}
-use Rattle.setup.specs.Layout.{Part, identifier, gyro, accelerometer, inclinometer, gyroTemperatures, accelerometerTemperatures, inclinometerTemperatures, aux, counter, latency, place, size, bytes, carries, offset, layout, Row, table, placed, layoutFrom, foundFrom, lookUp, partsAt, layoutOf}
+use Rattle.setup.specs.Layout.{Part, identifier, gyro, accelerometer, inclinometer, gyroTemperatures, accelerometerTemperatures, inclinometerTemperatures, aux, counter, latency, place, size, bytes, carries, offset, layout, Entry, table, placed, layoutFrom, foundFrom, lookUp, partsAt, layoutOf}
 use Rattle.setup.specs.declared.Layout.{Layout}
 use Rattle.setup.specs.declared.Found.the-variants.{Listed, Unlisted}
 
 -- the parts of each row add up to the bytes before the check that 01 gives it
-pub every-row : (Row → Type 0) → List Row → Type 0
+pub every-row : (Entry → Type 0) → List Entry → Type 0
 every-row P [] = Unit {0}
 every-row P (r ∷ rs) = P r × every-row P rs
 
-abbrev AddsUp : Row → Type 0
+abbrev AddsUp : Entry → Type 0
 AddsUp r = bytes (layout (r .carries)) ≡ r .before
 
 pub table-adds-up : every-row AddsUp table
@@ -70,7 +70,7 @@ part-within (q ∷ qs) p e =
 abbrev Short : List Part → Bool
 Short ps = leb 14 (bytes ps) && leb (bytes ps) 59
 
-abbrev every : List Row → Bool
+abbrev every : List Entry → Bool
 every [] = true
 every (r ∷ rs) = Short (layout (r .carries)) && every rs
 
@@ -78,7 +78,7 @@ abbrev InRange : List Part → Type 0
 InRange [] = Unit {0}
 InRange (p ∷ ps) = Short (p ∷ ps) ≡ true
 
-found-short : (rs : List Row) → every rs ≡ true → (i : ℕ) → InRange (lookUp rs i)
+found-short : (rs : List Entry) → every rs ≡ true → (i : ℕ) → InRange (lookUp rs i)
 found-short [] e i = tt
 found-short (r ∷ rs) e i = by (eqb i (r .identifier)) (both .0) (found-short rs (both .1) i)
   where
@@ -115,7 +115,7 @@ abbrev Headed : List Part → Type 0
 Headed [] = Unit {0}
 Headed (p ∷ ps) = p ≡ identifier
 
-headed : (rs : List Row) (i : ℕ) → Headed (lookUp rs i)
+headed : (rs : List Entry) (i : ℕ) → Headed (lookUp rs i)
 headed [] i = tt
 headed (r ∷ rs) i = by (eqb i (r .identifier)) (headed rs i)
   where

@@ -1,12 +1,14 @@
 -- The table by the four ranges of its identifiers, whose low four bits name the parts that are carried.
-use Prim.Native.Nat.{ℕ, zero, suc, _+_, _*_, _/_, _%_, _<_, _≤_}
-use mathlib.Core.Bool.{cond, _&&_}
+use Prim.Native.Nat.{ℕ, zero, suc, _+_, _-_, _*_, _/_, _%_, _<_, _≤_}
+use mathlib.Core.Bool.{Bool, true, false, cond, _&&_}
 use mathlib.Core.Path.{_≡_, refl, subst}
 use native.Mathlib.Omega.{arith}
 use native.Mathlib.Decide.{decLe}
 use borrow.Author.Tests.{ne-eqb}
 use lib.Dec.{eqb}
-use Rattle.setup.specs.Layout.{partsAt, layoutOf}
+use Rattle.setup.specs.Layout.{rowWith, rowAt, partsAt, layoutOf}
+use Rattle.setup.specs.declared.Listing.the-variants as row
+use Rattle.setup.proofs.Rows.{unlisted-parts}
 use Rattle.setup.specs.declared.Layout.{Layout}
 use Rattle.setup.specs.declared.Found.the-variants.{Listed, Unlisted}
 
@@ -64,14 +66,34 @@ pub warm-aux : (id : ℕ) → 0xAD ≤ id → id < 0xB0 → layoutOf id ≡ List
 unfolding layoutOf partsAt
 warm-aux = between Named 0xAD 3 (refl, (refl, (refl, tt)))
 
+-- the rows by the place in their range
+abbrev By : ℕ → Bool → Bool → ℕ → Type 0
+By base warm voltage id = rowAt id ≡ row.Listed (rowWith (id - base) warm voltage)
+
+pub four : (id : ℕ) → 0x90 ≤ id → id < 0x94 → By 0x90 false false id
+unfolding rowAt
+four = between (By 0x90 false false) 0x90 4 (refl, (refl, (refl, (refl, tt))))
+
+pub four-aux : (id : ℕ) → 0x98 ≤ id → id < 0x9C → By 0x98 false true id
+unfolding rowAt
+four-aux = between (By 0x98 false true) 0x98 4 (refl, (refl, (refl, (refl, tt))))
+
+pub three-warm : (id : ℕ) → 0xA5 ≤ id → id < 0xA8 → By 0xA4 true false id
+unfolding rowAt
+three-warm = between (By 0xA4 true false) 0xA5 3 (refl, (refl, (refl, tt)))
+
+pub three-warm-aux : (id : ℕ) → 0xAD ≤ id → id < 0xB0 → By 0xAC true true id
+unfolding rowAt
+three-warm-aux = between (By 0xAC true true) 0xAD 3 (refl, (refl, (refl, tt)))
+
 -- an identifier outside the four ranges is none of the table's
 module _ (id : ℕ) (a : 0x90 ≤ id → id < 0x95 → ⊥) (b : 0x98 ≤ id → id < 0x9D → ⊥) (c : 0xA5 ≤ id → id < 0xA8 → ⊥) (d : 0xAD ≤ id → id < 0xB0 → ⊥) where
   other : (lo hi k : ℕ) → (lo ≤ id → id < hi → ⊥) → lo ≤ k → k < hi → id ≡ k → ⊥
   other lo hi k f p q e = f (omega arith) (omega arith)
 
-  pub outside : layoutOf id ≡ Unlisted
-  unfolding layoutOf partsAt
-  outside =
+  pub unlisted : rowAt id ≡ row.Unlisted
+  unfolding rowAt
+  unlisted =
       simp (
         ne-eqb id 0x90 (other 0x90 0x95 0x90 a (omega arith) (omega arith)),
         ne-eqb id 0x91 (other 0x90 0x95 0x91 a (omega arith) (omega arith)),
@@ -90,6 +112,10 @@ module _ (id : ℕ) (a : 0x90 ≤ id → id < 0x95 → ⊥) (b : 0x98 ≤ id →
         ne-eqb id 0xAE (other 0xAD 0xB0 0xAE d (omega arith) (omega arith)),
         ne-eqb id 0xAF (other 0xAD 0xB0 0xAF d (omega arith) (omega arith)),
       )
+
+  pub outside : layoutOf id ≡ Unlisted
+  unfolding layoutOf
+  outside = rw (unlisted-parts id unlisted)
 
 -- nor is one before, between or behind the ranges
 module _ (id : ℕ) where

@@ -1,9 +1,12 @@
 -- 01, Layout by identifier (001, 5.5.6 and Table 5-22). A layout is the list of its parts in 01's order; where a part begins and how long a
 -- datagram is are functions of that list.
-use Prim.Native.Nat.{ℕ, _+_, _*_}
-use mathlib.Core.Bool.{Bool, false, _||_, cond}
+use Prim.Native.Nat.{ℕ, _+_, _*_, _/_, _%_}
+use mathlib.Core.Bool.{Bool, true, false, _||_, cond}
 use mathlib.Core.List.{List, [], _∷_, _++_}
 use lib.Dec.{eqb}
+use Rattle.setup.specs.declared.Row.{Row}
+use Rattle.setup.specs.declared.Listing.{Listing}
+use Rattle.setup.specs.declared.Listing as listing
 use Rattle.setup.specs.declared.Layout.{Layout}
 use Rattle.setup.specs.declared.Found.{Found}
 use Rattle.setup.specs.declared.Found.the-variants.{Listed, Unlisted}
@@ -41,61 +44,69 @@ bytes (p ∷ ps) = size p + bytes ps
 pub data Letter : Type 0 where
   R A I T U : Letter
 
--- the temperature set of a carried group
-abbrev pub temperaturesOf : Letter → List Part
-temperaturesOf R = gyroTemperatures ∷ []
-temperaturesOf A = accelerometerTemperatures ∷ []
-temperaturesOf I = inclinometerTemperatures ∷ []
-temperaturesOf T = []
-temperaturesOf U = []
+-- the letters of a row, behind R, which every row has
+abbrev pub letterNumber : Letter → ℕ
+letterNumber R = 0
+letterNumber A = 1
+letterNumber I = 2
+letterNumber T = 3
+letterNumber U = 4
 
-abbrev pub temperatureSets : List Letter → List Part
-temperatureSets [] = []
-temperatureSets (c ∷ cs) = temperaturesOf c ++ temperatureSets cs
+abbrev pub has : List Letter → Letter → Bool
+has [] c = false
+has (d ∷ ds) c = eqb (letterNumber c) (letterNumber d) || has ds c
 
--- the parts that a letter stands for, in a datagram that carries `all`
-abbrev pub partsOf : List Letter → Letter → List Part
-partsOf all R = gyro ∷ []
-partsOf all A = accelerometer ∷ []
-partsOf all I = inclinometer ∷ []
-partsOf all T = temperatureSets all
-partsOf all U = aux ∷ []
+abbrev pub carrying : List Letter → Row
+carrying cs = record { acceleration = has cs A; inclination = has cs I; temperatures = has cs T; aux = has cs U }
 
-abbrev pub carriedParts : List Letter → List Letter → List Part
-carriedParts all [] = []
-carriedParts all (c ∷ cs) = partsOf all c ++ carriedParts all cs
+-- a row by its groups: 0 the gyro alone, 1 with acceleration, 2 with inclination, 3 with both
+abbrev pub rowWith : ℕ → Bool → Bool → Row
+rowWith groups warm voltage =
+    record { acceleration = eqb (groups % 2) 1; inclination = eqb (groups / 2 % 2) 1; temperatures = warm; aux = voltage }
 
--- the identifier, what is carried, the counter, the latency; the check follows
+-- parts that stand in a datagram only if they are carried
+abbrev pub only : Bool → List Part → List Part
+only carried ps = cond carried ps []
+
+-- the parts of a row in 01's order; the check follows
+abbrev pub partsOf : Row → List Part
+partsOf r =
+    identifier ∷ gyro ∷ only (r .acceleration) (accelerometer ∷ []) ++ only (r .inclination) (inclinometer ∷ []) ++
+    only (r .temperatures) (
+    gyroTemperatures ∷ only (r .acceleration) (accelerometerTemperatures ∷ []) ++ only (r .inclination) (inclinometerTemperatures ∷ [])
+    ) ++
+    only (r .aux) (aux ∷ []) ++ counter ∷ latency ∷ []
+
 abbrev pub layout : List Letter → List Part
-layout all = identifier ∷ carriedParts all all ++ counter ∷ latency ∷ []
+layout cs = partsOf (carrying cs)
 
--- a row of 01's table: the identifier, what it carries, the bytes before the check
-pub record Row : Type 0 where
+-- a line of 01's table: the identifier, what it carries, the bytes before the check
+pub record Entry : Type 0 where
   pub identifier : ℕ
   pub carries : List Letter
   pub before : ℕ
 
-abbrev pub row : ℕ → List Letter → ℕ → Row
-row i cs n = record { identifier = i; carries = cs; before = n }
+abbrev pub entry : ℕ → List Letter → ℕ → Entry
+entry i cs n = record { identifier = i; carries = cs; before = n }
 
-abbrev pub table : List Row
+abbrev pub table : List Entry
 table =
-    row 0x90 (R ∷ []) 14 ∷
-    row 0x91 (R ∷ A ∷ []) 24 ∷
-    row 0x92 (R ∷ I ∷ []) 24 ∷
-    row 0x93 (R ∷ A ∷ I ∷ []) 34 ∷
-    row 0x94 (R ∷ T ∷ []) 21 ∷
-    row 0xA5 (R ∷ A ∷ T ∷ []) 38 ∷
-    row 0xA6 (R ∷ I ∷ T ∷ []) 38 ∷
-    row 0xA7 (R ∷ A ∷ I ∷ T ∷ []) 55 ∷
-    row 0x98 (R ∷ U ∷ []) 18 ∷
-    row 0x99 (R ∷ A ∷ U ∷ []) 28 ∷
-    row 0x9A (R ∷ I ∷ U ∷ []) 28 ∷
-    row 0x9B (R ∷ A ∷ I ∷ U ∷ []) 38 ∷
-    row 0x9C (R ∷ T ∷ U ∷ []) 25 ∷
-    row 0xAD (R ∷ A ∷ T ∷ U ∷ []) 42 ∷
-    row 0xAE (R ∷ I ∷ T ∷ U ∷ []) 42 ∷
-    row 0xAF (R ∷ A ∷ I ∷ T ∷ U ∷ []) 59 ∷
+    entry 0x90 (R ∷ []) 14 ∷
+    entry 0x91 (R ∷ A ∷ []) 24 ∷
+    entry 0x92 (R ∷ I ∷ []) 24 ∷
+    entry 0x93 (R ∷ A ∷ I ∷ []) 34 ∷
+    entry 0x94 (R ∷ T ∷ []) 21 ∷
+    entry 0xA5 (R ∷ A ∷ T ∷ []) 38 ∷
+    entry 0xA6 (R ∷ I ∷ T ∷ []) 38 ∷
+    entry 0xA7 (R ∷ A ∷ I ∷ T ∷ []) 55 ∷
+    entry 0x98 (R ∷ U ∷ []) 18 ∷
+    entry 0x99 (R ∷ A ∷ U ∷ []) 28 ∷
+    entry 0x9A (R ∷ I ∷ U ∷ []) 28 ∷
+    entry 0x9B (R ∷ A ∷ I ∷ U ∷ []) 38 ∷
+    entry 0x9C (R ∷ T ∷ U ∷ []) 25 ∷
+    entry 0xAD (R ∷ A ∷ T ∷ U ∷ []) 42 ∷
+    entry 0xAE (R ∷ I ∷ T ∷ U ∷ []) 42 ∷
+    entry 0xAF (R ∷ A ∷ I ∷ T ∷ U ∷ []) 59 ∷
     []
 
 -- a part's number in 01's order, by which two parts are told apart
@@ -141,7 +152,7 @@ layoutFrom ps =
     }
 
 -- the parts that the table gives an identifier, none where it isn't in the table
-abbrev pub lookUp : List Row → ℕ → List Part
+abbrev pub lookUp : List Entry → ℕ → List Part
 lookUp [] i = []
 lookUp (r ∷ rs) i = cond (eqb i (r .identifier)) (layout (r .carries)) (lookUp rs i)
 
@@ -152,8 +163,16 @@ abbrev pub foundFrom : List Part → Found
 foundFrom [] = Unlisted
 foundFrom (p ∷ ps) = Listed (layoutFrom (p ∷ ps))
 
+abbrev pub isFound : Found → Bool
+isFound (Listed l) = true
+isFound Unlisted = false
+
 unfoldable pub layoutOf : ℕ → Found
 layoutOf i = foundFrom (partsAt i)
+
+-- the groups of a row
+abbrev pub groupsOf : Row → List Bool
+groupsOf r = true ∷ r .acceleration ∷ r .inclination ∷ []
 
 -- which of the groups gyro, accelerometer and inclinometer an identifier carries
 unfoldable pub groupsCarried : ℕ → List Bool
@@ -163,3 +182,11 @@ groupsCarried i = carries (partsAt i) gyro ∷ carries (partsAt i) accelerometer
 abbrev pub lengthIn : Found → ℕ → ℕ
 lengthIn Unlisted termination = 0
 lengthIn (Listed l) termination = l .before + 4 + 2 * termination
+
+-- what the table says of an identifier
+abbrev pub rowIn : List Entry → ℕ → Listing
+rowIn [] i = listing.the-variants.Unlisted
+rowIn (e ∷ es) i = cond (eqb i (e .identifier)) (listing.the-variants.Listed (carrying (e .carries))) (rowIn es i)
+
+unfoldable pub rowAt : ℕ → Listing
+rowAt i = rowIn table i

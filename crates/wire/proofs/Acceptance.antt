@@ -8,8 +8,8 @@ use lib.Dec.{eqb, ltb, leb}
 use lib.ListN.{length, getD}
 use borrow.Author.Tests.{ltb-true, ltb-false, leb-true, le-leb, lt-leb, eqb-true, eq-eqb, ne-eqb, not-false}
 use Rattle.integers.proofs.Ranges.{and-split, or-split}
-use Rattle.setup.specs.Layout.{layoutOf, lengthIn}
-use Rattle.setup.specs.Setup.{isListed, lengthOf}
+use Rattle.setup.specs.Layout.{isFound, layoutOf, lengthIn}
+use Rattle.setup.specs.Setup.{lengthOf}
 use Rattle.setup.specs.declared.Found.{Found}
 use Rattle.setup.specs.declared.Found.the-variants.{Listed, Unlisted}
 use Rattle.setup.specs.declared.Setup.{Setup}
@@ -18,12 +18,12 @@ use Rattle.wire.specs.Acceptable.{checkPlace, checkRight, endingRight, a
 use Rattle.wire.proofs.FieldPlaces.{before-bytes}
 
 -- the length L of a listed identifier
-pub listed-length : (u : Setup) → isListed (layoutOf (u .identifier)) ≡ true
+pub listed-length : (u : Setup) → isFound (layoutOf (u .identifier)) ≡ true
     → (lengthOf u ≡ checkPlace (u .identifier) + 4 + 2 * u .termination) × (14 ≤ checkPlace (u .identifier)) × (checkPlace (u .identifier) ≤ 59)
 unfolding lengthOf
 listed-length u = by (layoutOf (u .identifier)) refl
   where
-    by : (f : Found) → layoutOf (u .identifier) ≡ f → isListed f ≡ true
+    by : (f : Found) → layoutOf (u .identifier) ≡ f → isFound f ≡ true
         → (lengthIn (layoutOf (u .identifier)) (u .termination) ≡ checkPlace (u .identifier) + 4 + 2 * u .termination) × (14 ≤ checkPlace (u .identifier)) × (checkPlace (u .identifier) ≤ 59)
     by (Listed l) e t =
         let b = before-bytes (u .identifier) e in
@@ -33,7 +33,7 @@ listed-length u = by (layoutOf (u .identifier)) refl
 
 -- what an acceptable list is known by
 pub record Facts (u : Setup) (s : List ℕ) : Type 0 where
-  pub listed : isListed (layoutOf (u .identifier)) ≡ true
+  pub listed : isFound (layoutOf (u .identifier)) ≡ true
   pub termination : u .termination ≤ 1
   pub long : length s ≡ lengthOf u
   pub first : getD s 0 0 ≡ u .identifier
@@ -44,7 +44,7 @@ module _ (u : Setup) (s : List ℕ) where
   pub accepted : acceptable u s ≡ true → Facts u s
   unfolding acceptable
   accepted e =
-      let listed = isListed (layoutOf (u .identifier)) in
+      let listed = isFound (layoutOf (u .identifier)) in
       let few = leb (u .termination) 1 in
       let long = eqb (length s) (lengthOf u) in
       let first = eqb (getD s 0 0) (u .identifier) in
@@ -119,7 +119,7 @@ module _ (u : Setup) (s : List ℕ) where
     where
       by : (f : Found) → layoutOf (u .identifier) ≡ f → acceptable u s ≡ inCodeOrder
       by (Listed l) e =
-          let t : isListed (layoutOf (u .identifier)) ≡ true = rw e in
+          let t : isFound (layoutOf (u .identifier)) ≡ true = rw e in
           let k = listed-length u t in
           let p : placeByLength ≡ checkPlace (u .identifier) = omega arith in
           let n : eqb (lengthOf u) 0 ≡ false = ne-eqb (lengthOf u) 0 (λ z. omega arith) in

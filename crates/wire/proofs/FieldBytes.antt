@@ -11,8 +11,7 @@ use lib.ListN.{length, getD, take, drop}
 use lib.Seq.{drop-drop}
 use borrow.Author.Tests.{le-leb, lt-leb}
 use Rattle.integers.specs.Bytes.{bigEndian, twosComplement, signedBytes}
-use Rattle.setup.specs.Layout.{Part, identifier, gyro, accelerometer, inclinometer, gyroTemperatures, accelerometerTemperatures, inclinometerTemperatures, aux, counter, latency, widths, sum, bytes, place, carries, offset, placed, Row, table, carriedParts, layout, lookUp, foundFrom, partsAt, layoutOf}
-use Rattle.setup.specs.Setup.{isListed}
+use Rattle.setup.specs.Layout.{Part, identifier, gyro, accelerometer, inclinometer, gyroTemperatures, accelerometerTemperatures, inclinometerTemperatures, aux, counter, latency, widths, sum, bytes, place, carries, offset, placed, Entry, table, layout, lookUp, foundFrom, partsAt, isFound, layoutOf}
 use Rattle.setup.specs.declared.Found.the-variants.{Unlisted}
 use Rattle.wire.specs.Fields.{Contents, groups, temperatureSets, partsWithin, cut, fieldsOfPart, signedField, unsignedField, axes, fieldsOf}
 use Rattle.wire.proofs.FieldPlaces.{cut-take, cut-field, one-byte, parts-unlisted}
@@ -114,35 +113,6 @@ module _ (i : ℕ) (s : List ℕ) (enough : bytes (partsAt i) ≤ length s) wher
   latency-bytes c = ap bigEndian (first-field latency c (omega arith))
 
 -- ---- what isn't there
-
--- every listed identifier carries the counter and the latency
-or-right : (a b : Bool) → b ≡ true → (a || b) ≡ true
-or-right true b e = refl
-or-right false b e = e
-
-last-two : (ps : List Part) → (carries (ps ++ counter ∷ latency ∷ []) counter ≡ true) × (carries (ps ++ counter ∷ latency ∷ []) latency ≡ true)
-last-two [] = (refl, refl)
-last-two (p ∷ ps) =
-    let r = last-two ps in (
-      or-right (eqb (place counter) (place p)) (carries (ps ++ counter ∷ latency ∷ []) counter) (r .0),
-      or-right (eqb (place latency) (place p)) (carries (ps ++ counter ∷ latency ∷ []) latency) (r .1),
-    )
-
-abbrev Tailed : List Part → Type 0
-Tailed ps = (carries ps counter ≡ true) × (carries ps latency ≡ true)
-
-tailed : (rs : List Row) (i : ℕ) → isListed (foundFrom (lookUp rs i)) ≡ true → Tailed (lookUp rs i)
-tailed [] i e = let z : _≡_ {A = ℕ} 0 1 = cc in absurd (omega arith)
-tailed (r ∷ rs) i e = by (eqb i (r .identifier)) (tailed rs i) e
-  where
-    by : (b : Bool) → (isListed (foundFrom (lookUp rs i)) ≡ true → Tailed (lookUp rs i))
-        → isListed (foundFrom (cond b (layout (r .carries)) (lookUp rs i))) ≡ true → Tailed (cond b (layout (r .carries)) (lookUp rs i))
-    by true f e = last-two (identifier ∷ carriedParts (r .carries) (r .carries))
-    by false f e = f e
-
-pub always-carried : (i : ℕ) → isListed (layoutOf i) ≡ true → (carries (partsAt i) counter ≡ true) × (carries (partsAt i) latency ≡ true)
-unfolding layoutOf partsAt
-always-carried i e = tailed table i e
 
 -- a part that isn't carried has no fields, so that its values are 0
 pub absent-part : (i : ℕ) (s : List ℕ) (p : Part) → carries (partsAt i) p ≡ false → fieldsOfPart (partsWithin i (length s)) s p ≡ []

@@ -14,8 +14,8 @@ use Rattle.integers.proofs.Bytes.{bytes-nil, bytes-cons, bytes-append, bytes-ta
 use Rattle.integers.proofs.Ranges.{and-split}
 use Rattle.crc.specs.Check.{check32}
 use Rattle.crc.proofs.Checks.{check32-lt}
-use Rattle.setup.specs.Layout.{layoutOf}
-use Rattle.setup.specs.Setup.{isListed, lengthOf}
+use Rattle.setup.specs.Layout.{isFound, layoutOf}
+use Rattle.setup.specs.Setup.{lengthOf}
 use Rattle.setup.specs.declared.Setup.{Setup}
 use Rattle.setup.proofs.Ranges.{outside}
 use Rattle.wire.specs.Acceptable.{checkPlace, checkRight, endingRight, acceptable}
@@ -49,7 +49,7 @@ unfoldable pub written : ℕ → ℕ → List ℕ → List ℕ
 written identifier termination body = (identifier ∷ body) ++ (fourBytes (check32 (identifier ∷ body)) ++ endingOf termination)
 
 -- an identifier in the table is a byte
-listed-byte : (i : ℕ) → isListed (layoutOf i) ≡ true → i < 256
+listed-byte : (i : ℕ) → isFound (layoutOf i) ≡ true → i < 256
 listed-byte i e = by (decLt i 256)
   where
     by : Dec (i < 256) → i < 256
@@ -59,7 +59,7 @@ listed-byte i e = by (decLt i 256)
         let z : _≡_ {A = ℕ} 0 1 = cc in
         absurd (omega arith)
 
-module _ (u : Setup) (body : List ℕ) (listed : isListed (layoutOf (u .identifier)) ≡ true) (termination : u .termination ≤ 1) (whole : suc (length body) ≡ checkPlace (u .identifier)) where
+module _ (u : Setup) (body : List ℕ) (listed : isFound (layoutOf (u .identifier)) ≡ true) (termination : u .termination ≤ 1) (whole : suc (length body) ≡ checkPlace (u .identifier)) where
   abbrev front : List ℕ
   front = u .identifier ∷ body
 

@@ -6,8 +6,8 @@ use lib.Dec.{eqb, leb}
 use lib.ListN.{length, getD, take, drop}
 use Rattle.integers.specs.Bytes.{bigEndian}
 use Rattle.crc.specs.Check.{check32}
-use Rattle.setup.specs.Layout.{bytes, partsAt, layoutOf}
-use Rattle.setup.specs.Setup.{isListed, lengthOf}
+use Rattle.setup.specs.Layout.{bytes, partsAt, isFound, layoutOf}
+use Rattle.setup.specs.Setup.{lengthOf}
 use Rattle.setup.specs.declared.Setup.{Setup}
 
 -- where the check stands: behind the parts of the identifier
@@ -25,6 +25,6 @@ endingRight termination place s = cond (eqb termination 1) (eqb (getD s place 0)
 -- an acceptable datagram of a setup, whose rate, units and shifts don't matter here
 unfoldable pub acceptable : Setup → List ℕ → Bool
 acceptable u s =
-    isListed (layoutOf (u .identifier)) && leb (u .termination) 1 && eqb (length s) (lengthOf u) && eqb (getD s 0 0) (u .identifier) &&
+    isFound (layoutOf (u .identifier)) && leb (u .termination) 1 && eqb (length s) (lengthOf u) && eqb (getD s 0 0) (u .identifier) &&
     endingRight (u .termination) (checkPlace (u .identifier) + 4) s &&
     checkRight (checkPlace (u .identifier)) s
