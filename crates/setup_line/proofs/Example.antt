@@ -2,7 +2,7 @@
 use Prim.Native.Nat.{ℕ}
 use mathlib.Core.List.{List, [], _∷_}
 use mathlib.Core.Path.{_≡_, refl}
-use Rattle.setup.specs.Layout.{groupsCarried, rowAt, partsAt}
+use Rattle.setup.specs.Layout.{groupsCarried, layoutOf, rowAt, partsAt}
 use Rattle.setup.specs.Setup.{setupRules, lengthOf}
 use Rattle.setup_line.specs.SetupLine.{fieldsOf, fieldAt, allDigits, decimalWritten, identifierWritten, decimalFrom, identifierValue, lineWritten, setupWritten, lineRules, lineRead}
 use Rattle.setup.specs.declared.Setup.{Setup}
@@ -23,5 +23,5 @@ unfolding
 example-read = refl
 
 pub example-length : lengthOf exampleSetup ≡ 18
-unfolding lengthOf rowAt partsAt
+unfolding lengthOf layoutOf rowAt partsAt
 example-length = refl
