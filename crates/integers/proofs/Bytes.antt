@@ -9,7 +9,7 @@ use lib.Dec.{ltb}
 use lib.IntN.{ℤ, pos, _-ℤ_}
 use lib.ListN.{length, take, drop, getD}
 use lib.Pow.{pow-add, pow-mono, high, low}
-use lib.Seq.{getD-drop, drop-cons}
+use lib.Seq.{getD-drop}
 use mir.Syntax.{Width}
 use mir.Val.{hbits, SFits, ofZ, toZ}
 use mir.ValLaws.{toZ-pos, toZ-ofZ}
@@ -45,18 +45,6 @@ bytes-take (suc n) {bs = b ∷ bs} h = bytes-cons (h .each 0) (bytes-take n (byt
 pub bytes-drop : (n : ℕ) {bs : List ℕ} → AllBytes bs → AllBytes (drop n bs)
 bytes-drop n {bs} h = record { each = λ i. rw (getD-drop n bs i 0) (h .each (n + i)) }
 
--- the bytes of a field by their places
-pub two-at : (s : List ℕ) (at : ℕ) → at + 2 ≤ length s → take 2 (drop at s) ≡ getD s at 0 ∷ getD s (at + 1) 0 ∷ []
-two-at s at h =
-    let e : at + 1 ≡ suc at = omega arith in
-    rw (drop-cons s at 0 (omega arith), drop-cons s (suc at) 0 (omega arith), e)
-
-pub three-at : (s : List ℕ) (at : ℕ) → at + 3 ≤ length s → take 3 (drop at s) ≡ getD s at 0 ∷ getD s (at + 1) 0 ∷ getD s (at + 2) 0 ∷ []
-three-at s at h =
-    let e : at + 1 ≡ suc at = omega arith in
-    let f : at + 2 ≡ suc (suc at) = omega arith in
-    rw (drop-cons s at 0 (omega arith), drop-cons s (suc at) 0 (omega arith), drop-cons s (suc (suc at)) 0 (omega arith), e, f)
-
 -- ---- unsigned
 
 wider : (n : ℕ) → 2 ^ (8 * suc n) ≡ 256 * 2 ^ (8 * n)
@@ -74,9 +62,14 @@ pub bigEndian-two : (a b : ℕ) → bigEndian (a ∷ b ∷ []) ≡ a * 256 + b
 unfolding bigEndian
 bigEndian-two a b = omega arith
 
-pub bigEndian-three : (a b c : ℕ) → bigEndian (a ∷ b ∷ c ∷ []) ≡ a * 65536 + b * 256 + c
+pub bigEndian-four : (a b c d : ℕ) → bigEndian (a ∷ b ∷ c ∷ d ∷ []) ≡ a * 16777216 + b * 65536 + c * 256 + d
 unfolding bigEndian
-bigEndian-three a b c = omega arith
+bigEndian-four a b c d = omega arith
+
+-- a zero byte in front alters nothing
+pub bigEndian-zero : (bs : List ℕ) → bigEndian (0 ∷ bs) ≡ bigEndian bs
+unfolding bigEndian
+bigEndian-zero bs = omega arith
 
 -- bytes are told by their value and their number
 pub bigEndian-injective : (xs ys : List ℕ) → AllBytes xs → AllBytes ys → length xs ≡ length ys → bigEndian xs ≡ bigEndian ys → xs ≡ ys

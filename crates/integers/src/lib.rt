@@ -24,18 +24,18 @@ pub fn temperature_of(first: u8, second: u8) -> i32
     z - 65536
 }
 
-// Three bytes as an unsigned number.
-fn three_bytes_of(first: u8, second: u8, third: u8) -> u32
-    ensures { λ r. ⌜ r ≡ bigEndian (first ∷ second ∷ third ∷ []) ⌝ }
+// Four bytes as an unsigned number, as the check is sent.
+pub fn four_bytes_of(first: u8, second: u8, third: u8, fourth: u8) -> u32
+    ensures { λ r. ⌜ r ≡ bigEndian (first ∷ second ∷ third ∷ fourth ∷ []) ⌝ }
 {
-    first as u32 * 65536 + second as u32 * 256 + third as u32
+    first as u32 * 16777216 + second as u32 * 65536 + third as u32 * 256 + fourth as u32
 }
 
 // Three bytes as a two's complement number, as a reading is sent.
 pub fn reading_of(first: u8, second: u8, third: u8) -> i32
     ensures { λ r. ⌜ r ≡ signedBytes (first ∷ second ∷ third ∷ []) ⌝ }
 {
-    let n = three_bytes_of(first, second, third);
+    let n = four_bytes_of(0, first, second, third);
     let z = n as i32;
     if n < 8388608 {
         return z;

@@ -8,15 +8,14 @@ use lib.Dec.{eqb, ltb}
 use lib.ListN.{getD}
 use borrow.Author.Tests.{eqb-true, ltb-false, not-false}
 use Rattle.integers.proofs.Ranges.{or-split}
-use Rattle.setup.specs.Layout.{bytes, partsOf, rowAt, layoutOf, partsAt, groupsCarried, lengthIn}
-use Rattle.setup.specs.Setup.{rateListed, isListed, anyAbove, strayGroup, stray, setupRules, rulingOn, zeroSetup, lengthOf}
+use Rattle.setup.specs.Layout.{layoutOf, lengthIn, rowAt, groupsCarried}
+use Rattle.setup.specs.Setup.{rateListed, isListed, anyAbove, strayGroup, stray, setupRules, rulingOn, zeroSetup, terminated, lengthAt, lengthOf}
 use Rattle.setup.specs.declared.Row.{Row}
 use Rattle.setup.specs.declared.Listing.{Listing}
 use Rattle.setup.specs.declared.Listing.the-variants.{Listed, Unlisted}
 use Rattle.setup.specs.declared.Setup.{Setup}
 use Rattle.setup.specs.declared.Ruling.the-variants.{Accepted, Refused}
-use Rattle.setup.proofs.Layouts.{before-range}
-use Rattle.setup.proofs.Rows.{listed-found}
+use Rattle.setup.proofs.Layouts.{length-range}
 use Rattle.setup.proofs.Rules.{first-within, none-applies}
 
 -- a setup given as values is refused by 4 to 9 only
@@ -58,16 +57,13 @@ accepted s e =
       plain = none .1 .1 .1 .1 .1 .0;
     }
 
--- its datagrams are 18 to 65 bytes long
+-- the length of its datagrams, which are 18 to 65 bytes long
+pub listed-length : (s : Setup) {r : Row} → rowAt (s .identifier) ≡ Listed r → lengthOf s ≡ lengthIn (layoutOf r (terminated s))
+unfolding lengthOf
+listed-length s e = ap (λ l. lengthAt l (terminated s)) e
+
 pub accepted-length : (s : Setup) → rulingOn s ≡ Accepted → (18 ≤ lengthOf s) × (lengthOf s ≤ 65)
-unfolding lengthOf layoutOf
-accepted-length s e =
-    let k = accepted s e in
-    let t = k .termination in
-    let f = listed-found (s .identifier) (k .listed) in
-    let r = before-range (s .identifier) f in
-    let n : lengthOf s ≡ bytes (partsOf (k .row)) + 4 + 2 * s .termination = ap (λ f. lengthIn f (s .termination)) f in
-    omega arith
+accepted-length s e = let k = accepted s e in rw (listed-length s (k .listed)) (length-range (k .row) (terminated s))
 
 -- ---- group by group, counted from 0 in the order gyro, accelerometer, inclinometer
 

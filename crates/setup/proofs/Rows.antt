@@ -1,15 +1,13 @@
--- Laws of the rows: the table's, the parts that a row has, and which of them are carried.
+-- Laws of the rows: the table's, the parts that a row has, and which groups are carried.
 use Prim.Native.Nat.{ℕ}
 use native.Mathlib.Omega.{arith}
-use mathlib.Core.Bool.{Bool, true, false, cond}
-use mathlib.Core.List.{List, [], _∷_}
+use mathlib.Core.Bool.{Bool, true, false}
+use mathlib.Core.List.{[], _∷_}
 use mathlib.Core.Path.{_≡_, refl, ap, _∙_}
-use lib.Dec.{eqb}
-use Rattle.setup.specs.Layout.{Part, gyro, accelerometer, inclinometer, carries, Entry, table, carrying, partsOf, layout, lookUp, partsAt, rowIn, rowAt, groupsOf, groupsCarried, layoutOf, layoutFrom}
+use Rattle.setup.specs.Layout.{gyro, accelerometer, inclinometer, partsOf, rowAt, partsIn, partsAt, carries, groupsOf, groupsCarried}
 use Rattle.setup.specs.Setup.{isListed}
 use Rattle.setup.specs.Sensor.{rowOf}
 use Rattle.setup.specs.declared.Row.{Row}
-use Rattle.setup.specs.declared.Found.the-variants as found
 use Rattle.setup.specs.declared.Listing.{Listing}
 use Rattle.setup.specs.declared.Listing.the-variants.{Listed, Unlisted}
 
@@ -42,44 +40,20 @@ every-row P h r = by (r .acceleration) (r .inclination) (r .temperatures) (r .au
     by true true true true = h .3 .3
 
 -- the parts of an identifier are those of its row
-parts-in : (es : List Entry) (i : ℕ) {r : Row} → rowIn es i ≡ Listed r → lookUp es i ≡ partsOf r
-parts-in [] i e = let z : _≡_ {A = ℕ} 0 1 = cc in absurd (omega arith)
-parts-in (e ∷ es) i {r} h = by (eqb i (e .identifier)) (parts-in es i) h
-  where
-    by : (b : Bool) → (rowIn es i ≡ Listed r → lookUp es i ≡ partsOf r)
-        → cond b (Listed (carrying (e .carries))) (rowIn es i) ≡ Listed r → cond b (layout (e .carries)) (lookUp es i) ≡ partsOf r
-    by true f h = let s : carrying (e .carries) ≡ r = cc in ap partsOf s
-    by false f h = f h
+pub row-parts : (i : ℕ) → partsAt i ≡ partsIn (rowAt i)
+unfolding rowAt partsAt
+row-parts i = refl
 
 pub listed-parts : (i : ℕ) {r : Row} → rowAt i ≡ Listed r → partsAt i ≡ partsOf r
-unfolding rowAt partsAt
-listed-parts i e = parts-in table i e
+listed-parts i e = row-parts i ∙ ap partsIn e
 
-none-in : (es : List Entry) (i : ℕ) → rowIn es i ≡ Unlisted → lookUp es i ≡ []
-none-in [] i e = refl
-none-in (e ∷ es) i h = by (eqb i (e .identifier)) (none-in es i) h
-  where
-    by : (b : Bool) → (rowIn es i ≡ Unlisted → lookUp es i ≡ [])
-        → cond b (Listed (carrying (e .carries))) (rowIn es i) ≡ Unlisted → cond b (layout (e .carries)) (lookUp es i) ≡ []
-    by true f h = let z : _≡_ {A = ℕ} 0 1 = cc in absurd (omega arith)
-    by false f h = f h
-
-pub unlisted-parts : (i : ℕ) → rowAt i ≡ Unlisted → partsAt i ≡ []
-unfolding rowAt partsAt
-unlisted-parts i e = none-in table i e
-
--- the groups that they are
+-- and so are its groups
 abbrev Carrying : Row → Type 0
 Carrying r = carries (partsOf r) gyro ∷ carries (partsOf r) accelerometer ∷ carries (partsOf r) inclinometer ∷ [] ≡ groupsOf r
 
 row-groups : (r : Row) → Carrying r
-row-groups =
-    every-row Carrying (
-      (refl, refl, refl, refl),
-      (refl, refl, refl, refl),
-      (refl, refl, refl, refl),
-      (refl, refl, refl, refl),
-    )
+unfolding partsOf
+row-groups = every-row Carrying ((refl, refl, refl, refl), (refl, refl, refl, refl), (refl, refl, refl, refl), (refl, refl, refl, refl))
 
 pub listed-groups : (i : ℕ) {r : Row} → rowAt i ≡ Listed r → groupsCarried i ≡ groupsOf r
 unfolding groupsCarried
@@ -91,8 +65,3 @@ carried-groups i = by (rowAt i) refl
     by : (l : Listing) → rowAt i ≡ l → isListed l ≡ true → groupsCarried i ≡ groupsOf (rowOf l)
     by (Listed r) h e = listed-groups i h
     by Unlisted h e = let z : _≡_ {A = ℕ} 0 1 = cc in absurd (omega arith)
-
--- for a while: the layout of places
-pub listed-found : (i : ℕ) {r : Row} → rowAt i ≡ Listed r → layoutOf i ≡ found.Listed (layoutFrom (partsOf r))
-unfolding layoutOf
-listed-found i e = rw (listed-parts i e)

@@ -7,8 +7,8 @@ use mathlib.Core.Path.{_≡_, refl, sym, ap, _∙_}
 use lib.Dec.{eqb}
 use lib.ListN.{getD}
 use borrow.Author.Tests.{eqb-true}
-use Rattle.setup.specs.Layout.{rowAt, groupsOf, groupsCarried}
-use Rattle.setup.specs.Setup.{hertz, unitNumber, rateListed, rulingOn}
+use Rattle.setup.specs.Layout.{layoutOf, lengthIn, rowAt, groupsOf, groupsCarried}
+use Rattle.setup.specs.Setup.{hertz, unitNumber, rateListed, rulingOn, lengthOf}
 use Rattle.setup.specs.Sensor.{rateOf, unitOf, unitsIn, unitsOf, shiftsIn, shiftsOf, rowOf, sensorOf, describedBy, descriptionOf}
 use Rattle.setup.specs.declared.Setup.{Setup}
 use Rattle.setup.specs.declared.Listing.the-variants.{Listed}
@@ -20,7 +20,7 @@ use Rattle.setup.specs.declared.Ruling.{Ruling}
 use Rattle.setup.specs.declared.Ruling.the-variants as ruling
 use Rattle.setup.specs.declared.Described.the-variants as description
 use Rattle.setup.proofs.Rows.{listed-groups}
-use Rattle.setup.proofs.Refusals.{each, none-above, accepted, absent-plain}
+use Rattle.setup.proofs.Refusals.{each, none-above, accepted, listed-length, absent-plain}
 
 -- a number is a rate if its case is another than the one that also answers the other numbers, or if it is 0
 abbrev pub toldBy : Bool → Rate → Bool
@@ -122,6 +122,10 @@ module _ (u : Setup) (ok : rulingOn u ≡ ruling.Accepted) where
       by zero h = refl
       by (suc zero) h = refl
       by (suc (suc t)) h = absurd (omega arith)
+
+  pub sensor-length : lengthOf u ≡ lengthIn (layoutOf (sensorOf u .row) (sensorOf u .terminated))
+  unfolding sensorOf
+  sensor-length = listed-length u sensor-row
 
   -- the description of an accepted setup is its sensor
   pub described : descriptionOf u ≡ description.Accepted (sensorOf u)

@@ -5,7 +5,7 @@ use mathlib.Core.List.{List, [], _∷_}
 use lib.Dec.{eqb}
 use lib.ListN.{getD}
 use Rattle.setup.specs.Layout.{rowAt}
-use Rattle.setup.specs.Setup.{hertz, unitNumber, rulingOn}
+use Rattle.setup.specs.Setup.{hertz, unitNumber, rulingOn, terminated}
 use Rattle.setup.specs.declared.Setup.{Setup}
 use Rattle.setup.specs.declared.Row.{Row}
 use Rattle.setup.specs.declared.Listing.{Listing}
@@ -62,7 +62,7 @@ sensorOf u =
     record {
       identifier = u .identifier;
       row = rowOf (rowAt (u .identifier));
-      terminated = eqb (u .termination) 1;
+      terminated = terminated u;
       rate = rateOf (u .rate);
       units = unitsOf (u .units);
       shifts = shiftsOf (u .shifts);

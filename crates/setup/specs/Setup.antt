@@ -4,7 +4,7 @@ use mathlib.Core.Bool.{Bool, true, false, not, _&&_, _||_, cond}
 use mathlib.Core.List.{List, [], _∷_}
 use lib.Dec.{eqb, ltb}
 use lib.ListN.{getD, replicate}
-use Rattle.setup.specs.Layout.{rowAt, layoutOf, groupsCarried, lengthIn}
+use Rattle.setup.specs.Layout.{layoutOf, lengthIn, rowAt, groupsCarried}
 use Rattle.setup.specs.declared.Listing.{Listing}
 use Rattle.setup.specs.declared.Listing.the-variants.{Listed, Unlisted}
 use Rattle.setup.specs.declared.Unit.{Unit}
@@ -87,6 +87,14 @@ rulingOn s = firstOf (setupRules s)
 abbrev pub zeroSetup : Setup
 zeroSetup = record { rate = 0; identifier = 0; termination = 0; units = replicate 3 0; shifts = replicate 3 0 }
 
+-- termination 1: the ending follows the check
+abbrev pub terminated : Setup → Bool
+terminated s = eqb (s .termination) 1
+
 -- the length L of a datagram of a setup, 0 where the identifier isn't in the table
+abbrev pub lengthAt : Listing → Bool → ℕ
+lengthAt (Listed r) ending = lengthIn (layoutOf r ending)
+lengthAt Unlisted ending = 0
+
 unfoldable pub lengthOf : Setup → ℕ
-lengthOf s = lengthIn (layoutOf (s .identifier)) (s .termination)
+lengthOf s = lengthAt (rowAt (s .identifier)) (terminated s)

@@ -2,7 +2,7 @@
 ghost use mathlib.Core.Path.{_≡_};
 ghost use mathlib.Core.Bool.{cond};
 ghost use Prim.Native.Nat.{_≤_};
-ghost use Rattle.setup.specs.Layout.{rowWith, rowAt, layoutOf, groupsOf, groupsCarried};
+ghost use Rattle.setup.specs.Layout.{layoutOf, lengthIn, rowWith, rowAt, groupsOf, groupsCarried};
 ghost use Rattle.setup.specs.Setup.{rateListed, isListed, anyAbove, strayGroup, stray, rulingOn, lengthOf};
 ghost use Rattle.setup.specs.Sensor.{rateOf, unitOf, unitsOf, rowOf, sensorOf, descriptionOf};
 
@@ -67,26 +67,6 @@ pub enum Described {
     Refused(u8),
 }
 
-// Where each part behind the identifier begins, 0 for one that isn't carried, and the bytes before the check.
-pub struct Layout {
-    pub gyro: usize,
-    pub accelerometer: usize,
-    pub inclinometer: usize,
-    pub gyro_temperatures: usize,
-    pub accelerometer_temperatures: usize,
-    pub inclinometer_temperatures: usize,
-    pub aux: usize,
-    pub counter: usize,
-    pub latency: usize,
-    pub before: usize,
-}
-
-// What the table says of an identifier.
-pub enum Found {
-    Listed(Layout),
-    Unlisted,
-}
-
 // A setup as values. The numbers are wide enough for every field of a line, so that each reaches its check unnarrowed.
 pub struct Setup {
     pub rate: u16,
@@ -102,45 +82,7 @@ pub enum Ruling {
     Refused(u8),
 }
 
-// A place or a size, 0 for what isn't carried.
-fn if_carried(carried: bool, bytes: usize) -> usize
-    ensures { λ r. ⌜ (r ≡ cond carried bytes 0) × (r ≤ bytes) ⌝ }
-{
-    if carried { bytes } else { 0 }
-}
-
-// The layout of an identifier, or that it isn't in the table. Of a listed identifier the low four bits name, from the lowest,
-// acceleration, inclination, temperatures and AUX.
-pub fn layout_of(identifier: u8) -> Found
-    ensures { λ r. ⌜ r ≡ layoutOf identifier ⌝ }
-{
-    let acceleration = (identifier % 2) as usize;
-    let inclination = (identifier / 2 % 2) as usize;
-    let warm = identifier / 4 % 2 == 1;
-    let groups_end = 11 + 10 * acceleration + 10 * inclination;
-    let aux = groups_end + if_carried(warm, 7 + 7 * acceleration + 7 * inclination);
-    let counter = aux + if_carried(identifier / 8 % 2 == 1, 4);
-    match identifier {
-        0x90..=0x94 | 0x98..=0x9C | 0xA5..=0xA7 | 0xAD..=0xAF => Found::Listed(Layout {
-            gyro: 1,
-            accelerometer: 11 * acceleration,
-            inclinometer: if_carried(inclination == 1, 11 + 10 * acceleration),
-            gyro_temperatures: if_carried(warm, groups_end),
-            accelerometer_temperatures: if_carried(warm & (acceleration == 1), groups_end + 7),
-            inclinometer_temperatures: if_carried(
-                warm & (inclination == 1),
-                groups_end + 7 + 7 * acceleration,
-            ),
-            aux: if_carried(identifier / 8 % 2 == 1, aux),
-            counter: counter,
-            latency: counter + 1,
-            before: counter + 3,
-        }),
-        _ => Found::Unlisted,
-    }
-}
-
-// A row by its groups: 0 the gyro alone, 1 with acceleration, 2 with inclination, 3 with both.
+// A row by the place of its identifier in a range of the table: 0 the gyro alone, 1 with acceleration, 2 with inclination, 3 with both.
 fn row_with(groups: u8, temperatures: bool, aux: bool) -> Row
     ensures { λ r. ⌜ r ≡ rowWith groups temperatures aux ⌝ }
 {
@@ -351,14 +293,29 @@ pub fn describe(setup: Setup) -> Described
     }
 }
 
+fn if_carried(carried: bool, bytes: usize) -> usize
+    ensures { λ r. ⌜ (r ≡ cond carried bytes 0) × (r ≤ bytes) ⌝ }
+{
+    if carried { bytes } else { 0 }
+}
+
+fn length_by(row: Row, terminated: bool) -> usize
+    ensures { λ r. ⌜ r ≡ lengthIn (layoutOf row terminated) ⌝ }
+{
+    let groups = 14 + if_carried(row.acceleration, 10) + if_carried(row.inclination, 10);
+    let warm = if_carried(row.acceleration, 7) + if_carried(row.inclination, 7);
+    let before = groups + if_carried(row.temperatures, 7 + warm) + if_carried(row.aux, 4);
+    before + 4 + if_carried(terminated, 2)
+}
+
 // The length L of a datagram, 0 where the identifier isn't in the table.
 pub fn length_of(setup: Setup) -> usize
     ensures { λ r. ⌜ r ≡ lengthOf setup ⌝ }
 {
     let termination = setup.termination;
-    let found = layout_of(setup.identifier);
-    match found {
-        Found::Listed(layout) => layout.before + 4 + 2 * termination as usize,
-        Found::Unlisted => 0,
+    let listing = row_of(setup.identifier);
+    match listing {
+        Listing::Listed(row) => length_by(row, termination == 1),
+        Listing::Unlisted => 0,
     }
 }

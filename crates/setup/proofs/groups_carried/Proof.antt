@@ -1,6 +1,6 @@
 use mathlib.Core.Path.{sym, _∙_}
 use Rattle.setup.specs.Layout.{groupsCarried}
-use Rattle.setup.proofs.Rows.{listed-groups, unlisted-parts}
+use Rattle.setup.proofs.Rows.{listed-groups, row-parts}
 use borrow.Author.Needs.{needs}
 use Rattle.setup.proofs.groups_carried.Statement.{statement}
 use Rattle.setup.proofs.groups_carried.Tie as tie
@@ -24,7 +24,7 @@ returns c =
 
 returns-2 : tie.Need-returns-2
 unfolding groupsCarried
-returns-2 c = rw (unlisted-parts (c .before .before .before .args .identifier) (sym (c .before .before .row-of .ensures) ∙ c .enum-told .given .1))
+returns-2 c = rw (row-parts (c .before .before .before .args .identifier), sym (c .before .before .row-of .ensures) ∙ c .enum-told .given .1)
 
 pub groups-carried-spec : {M : Type 1} → statement M
 groups-carried-spec =

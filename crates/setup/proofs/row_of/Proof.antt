@@ -1,7 +1,7 @@
 use mathlib.Core.Path.{sym}
 use native.Mathlib.Omega.{arith}
 use Rattle.setup.specs.Layout.{rowAt}
-use Rattle.setup.proofs.Ranges.{four, four-aux, three-warm, three-warm-aux, unlisted}
+use Rattle.setup.proofs.Ranges.{groups, groups-aux, warm, warm-aux, unlisted}
 use borrow.Author.Needs.{needs}
 use Rattle.setup.proofs.row_of.Statement.{statement}
 use Rattle.setup.proofs.row_of.Tie as tie
@@ -39,16 +39,16 @@ unfolding rowAt
 returns-2 c = rw (c .row-with2 .ensures, c .before .match .keys2)
 
 returns-3 : tie.Need-returns-3
-returns-3 c = rw (c .row-with3 .ensures) (sym (four (c .before .before .before .before .args .identifier) (c .before .before .if1 .left) (c .before .if2 .taken)))
+returns-3 c = rw (c .row-with3 .ensures) (sym (groups (c .before .before .before .before .args .identifier) (c .before .before .if1 .left) (c .before .if2 .taken)))
 
 returns-4 : tie.Need-returns-4
-returns-4 c = rw (c .row-with4 .ensures) (sym (four-aux (c .before .before .before .before .before .before .args .identifier) (c .before .before .if3 .left) (c .before .if4 .taken)))
+returns-4 c = rw (c .row-with4 .ensures) (sym (groups-aux (c .before .before .before .before .before .before .args .identifier) (c .before .before .if3 .left) (c .before .if4 .taken)))
 
 returns-5 : tie.Need-returns-5
-returns-5 c = rw (c .row-with5 .ensures) (sym (three-warm (c .before .before .before .before .before .before .before .before .args .identifier) (c .before .before .if5 .left) (c .before .if6 .taken)))
+returns-5 c = rw (c .row-with5 .ensures) (sym (warm (c .before .before .before .before .before .before .before .before .args .identifier) (c .before .before .if5 .left) (c .before .if6 .taken)))
 
 returns-6 : tie.Need-returns-6
-returns-6 c = rw (c .row-with6 .ensures) (sym (three-warm-aux (c .before .before .before .before .before .before .before .before .before .before .args .identifier) (c .before .before .if7 .left) (c .before .if8 .taken)))
+returns-6 c = rw (c .row-with6 .ensures) (sym (warm-aux (c .before .before .before .before .before .before .before .before .before .before .args .identifier) (c .before .before .if7 .left) (c .before .if8 .taken)))
 
 returns-7 : tie.Need-returns-7
 returns-7 c =
