@@ -41,26 +41,28 @@ use Rattle.scan.proofs.StreamLaws.{every-stream, reports-no-ten}
 use Rattle.search.specs.Search.{isDatagram, verdictOf}
 use Rattle.search.proofs.ByteLists.{datagram-parts}
 use Rattle.search.proofs.Datagrams.{shaped, lawful}
-use Rattle.session.specs.Session.{limits, noAxis, freshOf, opening, isSound, heldBytes}
+use Rattle.session.specs.History.{noAxis, noHistory}
+use Rattle.session.specs.declared.History.{History}
+use Rattle.session.specs.Session.{limits, freshOf, opening, isSound, heldBytes}
 use Rattle.session.specs.declared.Session.{Session}
 use Rattle.session.specs.declared.Opened.{Opened}
 use Rattle.receiver.specs.declared.Datagram.{Datagram}
-use Rattle.receiver.specs.Feed.{Kept, nothingKept, consumer, SessionMeaning, sessionOf, tell, datagramWith, noDatagram, Calls}
+use Rattle.receiver.specs.Feed.{consumer, SessionState, sessionOf, tell, datagramWith, noDatagram, Calls}
 use Rattle.receiver.specs.Promises.{streamOf, FedInTurn, answersFor, sighting, sightings, shiftOf, TotalExact, EveryCall, Contained, Exact, Demand2, Stands, Carry, Demand3}
 use Rattle.session.proofs.Opening.{fresh-sound, opened, refused-opening, zeros-unsound}
-use Rattle.receiver.proofs.Meanings.{SafeOf}
-use Rattle.receiver.proofs.Keeping.{kept}
+use Rattle.receiver.proofs.Refinement.{SafeOf}
+use Rattle.receiver.proofs.HistoryInvariant.{kept}
 use Rattle.receiver.proofs.Agreement.{Like, StateRun, run-of-states, run-of-sessions}
 use Rattle.receiver.proofs.EachCall.{not-refused, call-kept, empty-call}
-use Rattle.receiver.proofs.Turns.{fed-unsound, fed-over, fed-past}
+use Rattle.receiver.proofs.CallParts.{fed-unsound, fed-over, fed-past}
 use Rattle.session.proofs.Padding.{padded-front}
-use Rattle.receiver.proofs.KeptHistory.{carried-datagrams, contained-at}
-use Rattle.receiver.proofs.AxisHistory.{after-ruled, axisThen, total-then, double-then, then-bound, sighting-at, sightings-length, independent}
+use Rattle.receiver.proofs.ContainedAt.{carried-datagrams, contained-at}
+use Rattle.receiver.proofs.AxisAt.{after-ruled, axisThen, total-then, double-then, then-bound, sighting-at, sightings-length, independent}
 
 module _ (u : Setup) (ok : rulingOn u ≡ Accepted) where
   -- the session that opening gives is that of the fresh state
-  freshState : SessionMeaning
-  freshState = record { scan = calls.fresh; carried = nothingKept }
+  freshState : SessionState
+  freshState = record { scan = calls.fresh; carried = noHistory }
 
   opens : opening u .session ≡ sessionOf u freshState
   unfolding freshOf freshState
@@ -71,10 +73,10 @@ module _ (u : Setup) (ok : rulingOn u ≡ Accepted) where
   fresh-state-safe = fresh-safe (consumer u) (verdictOf u) (isDatagram u) (heldRule (u .identifier) (lengthOf u)) limits (lawful u ok) (kept u ok)
 
   module _ {ps : List (List ℕ)} {os : List Datagram} {rs : List Report} {t : Session} (c : FedInTurn u ps os rs t) where
-    state-run : (t′ : SessionMeaning) × Like u ok t′ t × StateRun u ok freshState ps os rs t′
+    state-run : (t′ : SessionState) × Like u ok t′ t × StateRun u ok freshState ps os rs t′
     state-run = run-of-sessions u ok (subst (λ (s : Session). Calls s ps os rs t) opens c) fresh-state-safe
 
-    end-state : SessionMeaning
+    end-state : SessionState
     end-state = state-run .0
 
     delivered : Delivered (consumer u) (verdictOf u) (isDatagram u) (heldRule (u .identifier) (lengthOf u)) limits ps os rs end-state
@@ -102,7 +104,7 @@ module _ (u : Setup) (ok : rulingOn u ≡ Accepted) where
     bytes-sum : lengthOf u * length os + t .passed + t .count ≡ t .fed
     bytes-sum =
         let es = delivered .datagrams in
-        let n : length os ≡ length es = ap length (delivered .handed-out) ∙ length-told (consumer u) nothingKept es in
+        let n : length os ≡ length es = ap length (delivered .handed-out) ∙ length-told (consumer u) noHistory es in
         let h : lengthOf u * length os ≡ end-state .scan .handed = ap (λ (m : ℕ). lengthOf u * m) n ∙ sym (handed-of es (delivered .among)) in
         omega (
           arith,
@@ -158,7 +160,7 @@ module _ (u : Setup) (ok : rulingOn u ≡ Accepted) where
       values-in : valuesFor (getD os i noDatagram .values) group ≡ valuesAt u (fieldsOf (u .identifier) d .readings) group
       unfolding tell datagramWith
       values-in =
-          ap (λ (o : Datagram). valuesFor (o .values) group) (answer ∙ told-at (consumer u) nothingKept es i noDatagram l)
+          ap (λ (o : Datagram). valuesFor (o .values) group) (answer ∙ told-at (consumer u) noHistory es i noDatagram l)
           ∙ values-at u (fieldsOf (u .identifier) d .readings) group h
 
       reading-small : natAbs (sighting u group axis d .reading) ≤ 2 ^ 31
@@ -301,16 +303,16 @@ module _ (u : Setup) (ok : rulingOn u ≡ Accepted) where
 
   -- the session counts the datagrams handed out
   counted :
-      {ps : List (List ℕ)} {os : List Datagram} {rs : List Report} {t : Session} → FedInTurn u ps os rs t → t .datagrams .0 ≡ length os
+      {ps : List (List ℕ)} {os : List Datagram} {rs : List Report} {t : Session} → FedInTurn u ps os rs t → t .history .datagrams .0 ≡ length os
   counted c =
       let es = delivered c .datagrams in
       omega (
         arith,
-        ap (λ (s : Session). s .datagrams .0) (is-session c),
-        ap (λ (x : Kept). x .datagrams) (delivered c .carried),
-        carried-datagrams u nothingKept es,
+        ap (λ (s : Session). s .history .datagrams .0) (is-session c),
+        ap (λ (x : History). x .datagrams .0) (delivered c .carried),
+        carried-datagrams u noHistory es,
         ap length (delivered c .handed-out),
-        length-told (consumer u) nothingKept es,
+        length-told (consumer u) noHistory es,
       )
 
   -- what was passed over and is held are those of the scan of the stream

@@ -29,10 +29,11 @@ use Rattle.scan.specs.Stream.{outcome, reports, stream, Among}
 use Rattle.scan.proofs.AmongLaws.{scan-among}
 use Rattle.search.specs.Search.{areBytes, isDatagram, verdictOf}
 use Rattle.search.proofs.Datagrams.{lawful}
+use Rattle.session.specs.History.{historyNext}
 use Rattle.session.specs.Session.{limits}
 use Rattle.session.specs.declared.Session.{Session}
 use Rattle.receiver.specs.declared.Datagram.{Datagram}
-use Rattle.receiver.specs.Feed.{datagramWith, keptNext, tell, noDatagram}
+use Rattle.receiver.specs.Feed.{datagramWith, historyAfter, tell, noDatagram}
 use Rattle.receiver.specs.Promises.{streamOf, FedInTurn, answersFor, sighting, sightings, Stands, Carry}
 use Rattle.receiver.proofs.Demands.{demand3}
 
@@ -123,5 +124,5 @@ example-total c = example-stands c .exact
 
 -- at rate 1000 a datagram comes every 2 samples: the first has no gap, the third comes one datagram late
 example-gaps : map (λ (o : Datagram). o .gap) (answersFor example datagrams) ≡ Missed (count 0) ∷ Missed (count 0) ∷ Missed (count 1) ∷ []
-unfolding told tell keptNext datagramWith gapAt knownRate elapsed missedAfter fieldsOf partsWithin fieldsOfPart partsAt bigEndian
+unfolding told tell historyAfter historyNext datagramWith gapAt knownRate elapsed missedAfter fieldsOf partsWithin fieldsOfPart partsAt bigEndian
 example-gaps = refl

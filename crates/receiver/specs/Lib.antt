@@ -1,4 +1,4 @@
 -- Feeding a session, and what is promised of it.
 pub mod Feed
-pub mod Turns
+pub mod CallParts
 pub mod Promises

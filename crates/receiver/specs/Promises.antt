@@ -23,12 +23,13 @@ use Rattle.scan.specs.Calls.{Report}
 use Rattle.scan.specs.Stream.{stream, reports, NoTen, Among}
 use Rattle.scan.specs.Carry.{told}
 use Rattle.search.specs.Search.{isDatagram, verdictOf}
-use Rattle.session.specs.Session.{noAxis, limits, heldBytes, isSound, opening}
+use Rattle.session.specs.History.{noAxis, noHistory}
+use Rattle.session.specs.Session.{limits, heldBytes, isSound, opening}
 use Rattle.session.specs.declared.Session.{Session}
 use Rattle.receiver.specs.declared.Datagram.{Datagram}
 use Rattle.receiver.specs.declared.Answer.the-variants.{Waiting, Refused}
 use Rattle.receiver.specs.declared.Reply.{Reply}
-use Rattle.receiver.specs.Feed.{nothingKept, consumer, noDatagram, feedOf, Calls}
+use Rattle.receiver.specs.Feed.{consumer, noDatagram, refusal, feedOf, Calls}
 
 -- ---- what the demands speak of
 
@@ -43,7 +44,7 @@ FedInTurn u ps os rs t = Calls (opening u .session) ps os rs t
 module _ (u : Setup) where
   -- what comes back with each of these datagrams, handed out in this order to a fresh session
   abbrev pub answersFor : List (List ℕ) → List Datagram
-  answersFor ds = told (consumer u) nothingKept ds
+  answersFor ds = told (consumer u) noHistory ds
 
   -- what an axis of a group sees of a datagram: its own reading, and whether the group's status byte leaves it fit
   abbrev pub sighting : ℕ → ℕ → List ℕ → Sighting
@@ -72,10 +73,6 @@ TotalExact u group axis o =
 
 -- ---- demand 2
 
--- a refused call
-abbrev pub refusal : Session → ℕ → Reply
-refusal s n = record { answer = Refused n; taken = 0; session = s; datagram = noDatagram }
-
 -- one call on a session that 10 doesn't turn down
 pub record CallKept (s : Session) (p : List ℕ) : Type 0 where
   -- the session that comes back isn't turned down by 10 either, and is of the same setup
@@ -84,7 +81,7 @@ pub record CallKept (s : Session) (p : List ℕ) : Type 0 where
   -- bytes fed are the bytes taken, and = datagram length × datagrams + bytes passed over + bytes held
   pub fed : feedOf s p .session .fed ≡ s .fed + feedOf s p .taken
   pub sum :
-      lengthOf (s .setup) * feedOf s p .session .datagrams .0 + feedOf s p .session .passed + feedOf s p .session .count
+      lengthOf (s .setup) * feedOf s p .session .history .datagrams .0 + feedOf s p .session .passed + feedOf s p .session .count
       ≡ feedOf s p .session .fed
 
 -- every call, on any session and any piece
@@ -156,7 +153,7 @@ pub record Demand2 (u : Setup) : Type 0 where
   -- and passed over and held are those of 01's scan
   pub bytes :
       {ps : List (List ℕ)} {os : List Datagram} {rs : List Report} {t : Session} → FedInTurn u ps os rs t
-      → (t .fed ≡ length (streamOf ps)) × (lengthOf u * length os + t .passed + t .count ≡ t .fed) × (t .datagrams .0 ≡ length os)
+      → (t .fed ≡ length (streamOf ps)) × (lengthOf u * length os + t .passed + t .count ≡ t .fed) × (t .history .datagrams .0 ≡ length os)
       × (t .passed ≡ scan (verdictOf u) (streamOf ps) .passed) × (heldBytes t ≡ scan (verdictOf u) (streamOf ps) .held)
 
 -- ---- demand 3

@@ -24,9 +24,9 @@ pub record Facts (s : Session) : Type 0 where
   pub within : s .count ≤ length (s .held)
   pub held : heldRule (s .setup .identifier) (lengthOf (s .setup)) (heldBytes s) ≡ true
   pub rest : allZero (drop (s .count) (s .held)) ≡ true
-  pub sum : lengthOf (s .setup) * s .datagrams .0 + s .passed + s .count ≡ s .fed
+  pub sum : lengthOf (s .setup) * s .history .datagrams .0 + s .passed + s .count ≡ s .fed
   pub most : s .fed ≤ 2 ^ 34
-  pub axes : axesRight (s .setup) (s .datagrams .0) (s .axes) ≡ true
+  pub axes : axesRight (s .setup) (s .history .datagrams .0) (s .history .axes) ≡ true
 
 pub accepted-true : (j : Ruling) → isAccepted j ≡ true → j ≡ Accepted
 accepted-true Accepted e = refl
@@ -46,7 +46,7 @@ sound-facts s e =
       within = leb-true (s .count) (length (s .held)) (h .0);
       held = h .1;
       rest = r .0;
-      sum = eqb-true (lengthOf (s .setup) * s .datagrams .0 + s .passed + s .count) (s .fed) (t .0);
+      sum = eqb-true (lengthOf (s .setup) * s .history .datagrams .0 + s .passed + s .count) (s .fed) (t .0);
       most = leb-true (s .fed) (2 ^ 34) (f .0);
       axes = f .1;
     }
@@ -57,16 +57,16 @@ facts-sound s h =
     and-true (ap isAccepted (h .accepted))
     (and-true (and-true (le-leb (s .count) (length (s .held)) (h .within)) (h .held))
     (and-true (h .rest)
-    (and-true (eq-eqb (lengthOf (s .setup) * s .datagrams .0 + s .passed + s .count) (s .fed) (h .sum))
+    (and-true (eq-eqb (lengthOf (s .setup) * s .history .datagrams .0 + s .passed + s .count) (s .fed) (h .sum))
     (and-true (le-leb (s .fed) (2 ^ 34) (h .most)) (h .axes)))))
 
 -- ---- what the tests of the code come to
 
 -- the same test with its clauses in pairs, as the code takes them
-pub in-parts : (s : Session) → isSound s ≡ (setupRight s && ((heldRight s && restRight s) && ((sumRight s && fedRight s) && axesRight (s .setup) (s .datagrams .0) (s .axes))))
+pub in-parts : (s : Session) → isSound s ≡ (setupRight s && ((heldRight s && restRight s) && ((sumRight s && fedRight s) && axesRight (s .setup) (s .history .datagrams .0) (s .history .axes))))
 unfolding isSound
 in-parts s =
-    let rest = axesRight (s .setup) (s .datagrams .0) (s .axes) in
+    let rest = axesRight (s .setup) (s .history .datagrams .0) (s .history .axes) in
     sym
     (ap (λ t. setupRight s && t)
     (and-assoc (heldRight s) (restRight s) ((sumRight s && fedRight s) && rest)

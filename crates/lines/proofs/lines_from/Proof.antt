@@ -12,13 +12,13 @@ use Rattle.scan.specs.Scan.{first}
 use Rattle.search.specs.Search.{isDatagram, verdictOf, placeOf}
 use Rattle.search.proofs.Places.{to-end, part-of, IsWhole, IsOpen, found-whole, found-open}
 use Rattle.lines.specs.declared.Progress.{Progress}
-use Rattle.lines.specs.Steps.{keptIn, nextLine, nextOf, Ready, Through}
-use Rattle.lines.proofs.Going.{Going, going-start, whole-within, whole-long, going-next, open-within, going-stop, going-all, ready-less}
+use Rattle.lines.specs.PieceParts.{nextLine, nextOf, Ready, Finished}
+use Rattle.lines.proofs.LoopInvariant.{Invariant, invariant-start, whole-within, whole-long, invariant-next, open-within, finished-stop, finished-all, ready-less}
 use Rattle.lines.proofs.lines_from.Statement.{statement}
 use Rattle.lines.proofs.lines_from.Tie as tie
 
 abbrev Inv-loop : tie.InvT-loop
-Inv-loop setup piece buffer₀ size len going₀ buffer going = Going setup going₀ piece buffer₀ going buffer
+Inv-loop setup piece buffer₀ size len going₀ buffer going = Invariant setup going₀ piece buffer₀ going buffer
 
 abbrev μ-loop : tie.MeasureT-loop
 μ-loop setup piece buffer₀ size len going₀ buffer going = length piece - going .at
@@ -83,7 +83,7 @@ length-of-requires c κs = search needs
 loop-holds : tie.Need-loop-holds Inv-loop μ-loop
 loop-holds c =
     let s = c .before .before .before in
-    going-start (s .args .setup) (s .args .start) (s .args .piece .now) (s .args .buffer .now) (s .pre)
+    invariant-start (s .args .setup) (s .args .start) (s .args .piece .now) (s .args .buffer .now) (s .pre)
 
 sub-rest : tie.Need-sub-rest Inv-loop μ-loop
 sub-rest c = omega arith
@@ -146,9 +146,9 @@ loop-again c =
     let l = c .before .before .before .before .before .before .before .before .before .before .before .before .loop in
     let o = c .before .before .one-line in
     let n = c .before .before .before .before .before .before .skipped .given .0 .0 in
-    subst (λ (t : List ℕ). Going u (s .args .start) p b (o .result) t) (sym (o .ensures .1 ∙ ap (λ (v : List ℕ). sets (l .buffer) (l .going .used) (nextLine u (keptIn (l .going)) v)) (cut h)))
-    (subst (λ (x : Progress). Going u (s .args .start) p b x (sets (l .buffer) (l .going .used) (nextLine u (keptIn (l .going)) (found h)))) (sym (moved (c .before .before)))
-    (going-next u (s .args .start) p b (l .going) (l .buffer) (l .inv) n (whole-arm h)))
+    subst (λ (t : List ℕ). Invariant u (s .args .start) p b (o .result) t) (sym (o .ensures .1 ∙ ap (λ (v : List ℕ). sets (l .buffer) (l .going .used) (nextLine u (l .going .history) v)) (cut h)))
+    (subst (λ (x : Progress). Invariant u (s .args .start) p b x (sets (l .buffer) (l .going .used) (nextLine u (l .going .history) (found h)))) (sym (moved (c .before .before)))
+    (invariant-next u (s .args .start) p b (l .going) (l .buffer) (l .inv) n (whole-arm h)))
 
 enum-known-skipped-2 : tie.Need-enum-known-skipped-2 Inv-loop μ-loop
 enum-known-skipped-2 c = search needs
@@ -168,8 +168,8 @@ returns c =
     let s = c .before .before .before .before .before .before .before .before .before .before .before .before in
     let u = s .args .setup in
     let l = c .before .before .before .before .before .before .before .before .loop in
-    subst (Through u (s .args .start) (s .args .piece .now) (s .args .buffer .now) (l .buffer)) (sym (c .stop .ensures))
-    (going-stop u (s .args .start) (s .args .piece .now) (s .args .buffer .now) (l .going) (l .buffer) (l .inv) (c .before .before .skipped2 .given .0 .0) (open-arm (c .before)))
+    subst (Finished u (s .args .start) (s .args .piece .now) (s .args .buffer .now) (l .buffer)) (sym (c .stop .ensures))
+    (finished-stop u (s .args .start) (s .args .piece .now) (s .args .buffer .now) (l .going) (l .buffer) (l .inv) (c .before .before .skipped2 .given .0 .0) (open-arm (c .before)))
 
 same-length-2 : tie.Need-same-length-2 Inv-loop μ-loop
 same-length-2 c = c .before .before .loop .inv .same
@@ -178,7 +178,7 @@ returns-2 : tie.Need-returns-2 Inv-loop μ-loop
 returns-2 c =
     let s = c .before .before .before .before .before .before in
     let l = c .before .before .loop in
-    going-all (s .args .setup) (s .args .start) (s .args .piece .now) (s .args .buffer .now) (l .going) (l .buffer) (l .inv) (omega (arith, c .if1 .left))
+    finished-all (s .args .setup) (s .args .start) (s .args .piece .now) (s .args .buffer .now) (l .going) (l .buffer) (l .inv) (omega (arith, c .if1 .left))
 
 pub lines-from-spec : {M : Type 1} → statement M
 lines-from-spec =

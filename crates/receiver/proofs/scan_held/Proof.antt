@@ -11,10 +11,10 @@ use Rattle.scan.specs.Scan.{first, later}
 use Rattle.search.specs.Search.{verdictOf, placeOf}
 use Rattle.search.proofs.Places.{to-end, part-of, IsWhole, IsOpen, found-whole, found-open}
 use Rattle.session.specs.Session.{heldBytes}
-use Rattle.receiver.specs.Turns.{turnAtOnce}
+use Rattle.receiver.specs.CallParts.{replyAtOnce}
 use Rattle.receiver.proofs.Joining.{whole-joined, whole-taken, open-joined}
 use Rattle.session.proofs.Padding.{padded-front}
-use Rattle.receiver.proofs.Turns.{turn-found, turn-held, room-less}
+use Rattle.receiver.proofs.CallParts.{reply-found, reply-held, room-less}
 use borrow.Author.Needs.{needs}
 use Rattle.receiver.proofs.scan_held.Statement.{statement}
 use Rattle.receiver.proofs.scan_held.Tie as tie
@@ -166,7 +166,7 @@ hand-out-requires c κs =
     let s = c .before .before .before .before .before .before .before .before .before .before .before .before .before in
     let a = s .args in
     let at = c .before .before .at .given .0 .0 in
-    let n = 200 + length (a .piece .now) in
+    let n = 128 + length (a .piece .now) in
     let w = whole-within (c .before) in
     let m = front-most (c .before .before .before .before .before .before .before .before .before) in (
       room-less (a .session) n at (omega (arith, w, m)) (s .pre .3),
@@ -190,7 +190,7 @@ hold-requires c κs =
     let s = c .before .before .before .before .before .before .before .before .before .before .before .before .before .before in
     let a = s .args in
     let at = c .before .before .before .at2 .given .0 .0 in
-    let n = 200 + length (a .piece .now) in
+    let n = 128 + length (a .piece .now) in
     let window = take (a .session .count + c .before .before .before .before .before .before .before .before .before .before .least .result) (c .before .before .before .before .before .before .before .join .result) in
     let w = open-within (c .before .before) in
     let m = front-most (c .before .before .before .before .before .before .before .before .before .before) in (
@@ -220,7 +220,7 @@ scan-on-requires c κs =
       s .pre .0,
       s .pre .1,
       omega (arith, w, part-within (c .before .before .before .before .before .before .before .before .before)),
-      room-less (a .session) (200 + length (a .piece .now)) (at + length (a .piece .now)) (omega (arith, w, m)) (s .pre .3),
+      room-less (a .session) (128 + length (a .piece .now)) (at + length (a .piece .now)) (omega (arith, w, m)) (s .pre .3),
     )
 
 returns : tie.Need-returns
@@ -238,7 +238,7 @@ returns c =
     let l = held-count s in
     let e : at + a .size - a .session .count ≡ at + n - length h = omega (arith, l, s .pre .1) in
     c .hand-out .ensures
-    ∙ turn-found (a .session) p (take n (drop at (h ++ take m p))) (take (at + a .size - at) (drop at window)) (drop (at + n) (h ++ take m p) ++ drop m p)
+    ∙ reply-found (a .session) p (take n (drop at (h ++ take m p))) (take (at + a .size - at) (drop at window)) (drop (at + n) (h ++ take m p) ++ drop m p)
     at (at + a .size - a .session .count) (first (verdictOf u) (h ++ p)) (whole-joined u (s .pre .0) h p m at w)
     (e ∙ sym (whole-taken u (s .pre .0) h p m at w (omega (arith, l, s .pre .1, s .pre .2)) (part-within (c .before .before .before .before .before .before .before .before .before .before))))
     (part-of window at (a .size) ∙ ap (λ (y : List ℕ). take (a .size) (drop at y)) (window-is (c .before .before .before .before .before .before .before)) ∙ ap (λ (k : ℕ). take k (drop at (h ++ take m p))) (s .pre .1))
@@ -254,7 +254,7 @@ returns-2 c =
     let window = take (a .session .count + m) (c .before .before .before .before .before .before .before .before .join .result) in
     let t : take m p ≡ p = take-all m p (omega (arith, c .before .before .if1 .taken)) in
     c .hold .ensures
-    ∙ turn-held (a .session) p (drop at (h ++ take m p)) (take (length window - at) (drop at window)) at (first (verdictOf u) (h ++ p))
+    ∙ reply-held (a .session) p (drop at (h ++ take m p)) (take (length window - at) (drop at window)) at (first (verdictOf u) (h ++ p))
     (ap (λ (y : List ℕ). first (verdictOf u) (h ++ y)) (sym t) ∙ open-arm (c .before .before .before) .scan)
     (to-end window at ∙ ap (drop at) (window-is (c .before .before .before .before .before .before .before .before)))
 
@@ -272,7 +272,7 @@ returns-3 c =
     open-joined u (s .pre .0) h p m at (open-arm (c .before .before)) (omega (arith, l, behind (c .before))) (part-within (c .before .before .before .before .before .before .before .before .before .before))
     ∙ ap (λ (k : ℕ). later at (first (verdictOf u) (drop (at - k) p))) l
     in
-    c .scan-on .ensures ∙ ap (turnAtOnce (a .session) p) (sym g)
+    c .scan-on .ensures ∙ ap (replyAtOnce (a .session) p) (sym g)
 
 pub scan-held-spec : {M : Type 1} → statement M
 scan-held-spec =

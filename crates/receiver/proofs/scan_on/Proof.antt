@@ -9,7 +9,7 @@ use Rattle.setup.proofs.Refusals.{accepted-length}
 use Rattle.scan.specs.Scan.{first, later}
 use Rattle.search.specs.Search.{verdictOf, placeOf}
 use Rattle.search.proofs.Places.{to-end, part-of, IsWhole, IsOpen, found-whole, found-open}
-use Rattle.receiver.proofs.Turns.{turn-found, turn-held, room-less}
+use Rattle.receiver.proofs.CallParts.{reply-found, reply-held, room-less}
 use borrow.Author.Needs.{needs}
 use Rattle.receiver.proofs.scan_on.Statement.{statement}
 use Rattle.receiver.proofs.scan_on.Tie as tie
@@ -148,7 +148,7 @@ returns c =
     let rest = take (length p - a .from) q in
     let w = whole-arm (c .before .before) in
     c .hand-out .ensures
-    ∙ turn-found (a .session) p (take n (drop at q)) (take (at + a .size - at) (drop at rest)) (drop (at + n) q) (a .passed + at) (a .from + (at + a .size))
+    ∙ reply-found (a .session) p (take n (drop at q)) (take (at + a .size - at) (drop at rest)) (drop (at + n) q) (a .passed + at) (a .from + (at + a .size))
     (later (a .passed) (first (verdictOf (a .session .setup)) q)) (ap (later (a .passed)) (w .scan))
     (omega (arith, length-drop (at + n) q, length-drop (a .from) p, w .within, s .pre .1, s .pre .2))
     (part-of rest at (a .size) ∙ ap (λ (l : List ℕ). take (a .size) (drop at l)) (to-end p (a .from)) ∙ ap (λ (m : ℕ). take m (drop at q)) (s .pre .1))
@@ -162,7 +162,7 @@ returns-2 c =
     let q = drop (a .from) p in
     let rest = take (length p - a .from) q in
     c .hold .ensures
-    ∙ turn-held (a .session) p (drop at q) (take (length rest - at) (drop at rest)) (a .passed + at)
+    ∙ reply-held (a .session) p (drop at q) (take (length rest - at) (drop at rest)) (a .passed + at)
     (later (a .passed) (first (verdictOf (a .session .setup)) q)) (ap (later (a .passed)) (open-arm (c .before .before) .scan))
     (to-end rest at ∙ ap (drop at) (to-end p (a .from)))
 

@@ -1,4 +1,4 @@
--- Going through a piece: what each datagram leaves, and what there is at the end. Assumes nothing.
+-- The invariant of the loop over a piece: what each datagram leaves, and what there is at the end. Assumes nothing.
 use Prim.Native.Nat.{ℕ, _+_, _-_, _*_, _^_, _≤_, _<_}
 use mathlib.Core.Path.{_≡_, refl, sym, ap, _∙_, subst}
 use mathlib.Core.Bool.{true}
@@ -6,13 +6,13 @@ use mathlib.Core.List.{List, [], _++_}
 use native.Mathlib.Nat.{add-zero, mul-add, mul-one, mul-le-mul-right}
 use native.Mathlib.Omega.{arith}
 use lib.ListN.{length, take, drop, length-append, length-drop, drop-of-length-le}
-use lib.Seq.{sets, length-sets, length-take-le, drop-drop}
-use Rattle.session.specs.Session.{padded}
+use lib.Seq.{sets, length-sets, length-take-le, take-all, drop-drop}
+use Rattle.session.specs.History.{historyNext}
+use Rattle.session.specs.Session.{limits, sessionWith}
 use Rattle.setup.specs.Setup.{rulingOn, lengthOf}
 use Rattle.setup.specs.declared.Setup.{Setup}
 use Rattle.setup.specs.declared.Ruling.the-variants.{Accepted}
 use Rattle.setup.proofs.Refusals.{accepted-length}
-use Rattle.motion.specs.Gaps.{datagrams}
 use Rattle.scan.specs.Scan.{Scanned, holding, passing, handing, first, scan, Stable}
 use Rattle.scan.specs.Carry.{steps, carriedAfter}
 use Rattle.scan.proofs.ScanLaws.{scan-first, unrolled}
@@ -22,10 +22,11 @@ use Rattle.search.proofs.Datagrams.{lawful}
 use Rattle.search.proofs.Places.{to-end, IsWhole, IsOpen}
 use Rattle.session.specs.declared.Session.{Session}
 use Rattle.session.proofs.Soundness.{sound-facts}
-use Rattle.receiver.specs.Feed.{keptNext, consumer}
+use Rattle.session.proofs.PieceRulings.{admitted}
+use Rattle.receiver.specs.Feed.{historyAfter, consumer, sessionOf}
 use Rattle.lines.specs.declared.Received.the-variants.{Lines}
 use Rattle.lines.specs.declared.Progress.{Progress}
-use Rattle.lines.specs.Steps.{startOf, keptIn, nextLine, textOf, nextOf, stopped, batchBy, Ready, scanAt, Through, Made, Let}
+use Rattle.lines.specs.PieceParts.{startOf, nextLine, textOf, nextOf, stopped, behindBy, batchBy, Ready, scanAt, Finished, Answered, Permitted}
 use Rattle.lines.proofs.NextLines.{right-next, line-short, text-none, text-more}
 use Rattle.lines.proofs.Placing.{sets-append}
 
@@ -45,8 +46,8 @@ scan-open u a v n w = scan-first (verdictOf u) (stable-of u a) v ∙ ap (unrolle
 
 -- ---- counts that stay in range
 
--- few datagrams: 18 bytes each, of at most 2 ^ 34
-pub few-of : (u : Setup) → rulingOn u ≡ Accepted → (n rest : ℕ) → lengthOf u * n + rest ≤ 2 ^ 34 → n < 2 ^ 30
+-- few datagrams, of 18 bytes or more each
+pub few-of : (u : Setup) → rulingOn u ≡ Accepted → (n rest : ℕ) → lengthOf u * n + rest ≤ limits .session → n < 2 ^ 30
 few-of u a n rest h = omega (arith, mul-le-mul-right n (accepted-length u a .0))
 
 -- room for fewer bytes
@@ -65,39 +66,39 @@ ready-less u x end less room a l R =
 module _ (u : Setup) (x : Progress) (end room : ℕ) (R : Ready u x end room) (n : ℕ) (d : List ℕ) (good : isDatagram u d ≡ true) where
   -- behind a datagram all is ready again
   pub ready-next : length d ≡ lengthOf u → x .at + (n + lengthOf u) ≤ end → Ready u (nextOf u x n d) end room
-  unfolding nextOf keptNext
+  unfolding nextOf historyAfter historyNext
   ready-next long fits =
-      let k = keptIn x in
+      let k = x .history in
       let L = accepted-length u (R .accepted) in
-      let few = few-of u (R .accepted) (x .datagrams) (end - x .at) (R .few) in
+      let few = few-of u (R .accepted) (x .history .datagrams .0) (end - x .at) (R .few) in
       let short = line-short u k d (R .axes) good (omega arith) in
       record {
         accepted = R .accepted;
         within = omega (arith, long, fits);
         most = R .most;
         axes = right-next u k d (R .axes) good;
-        few = omega (arith, R .few, mul-add (lengthOf u) (x .datagrams) 1, mul-one (lengthOf u), long, fits);
+        few = omega (arith, R .few, mul-add (lengthOf u) (x .history .datagrams .0) 1, mul-one (lengthOf u), long, fits);
         passed = omega (arith, R .passed, long, fits);
         roomy = omega (arith, R .roomy, short, long, fits, L .0);
       }
 
 module _ (u : Setup) (start : Progress) (p b₀ : List ℕ) where
   -- at x, with the buffer b: what is left gives what the whole gives
-  pub record Going (x : Progress) (b : List ℕ) : Type 0 where
+  pub record Invariant (x : Progress) (b : List ℕ) : Type 0 where
     pub ready : Ready u x (length p) (length b)
     pub same : length b ≡ length b₀
     pub kept :
-        carriedAfter (consumer u) (keptIn x) (scanAt u p (x .at) .datagrams)
-        ≡ carriedAfter (consumer u) (keptIn start) (scanAt u p (start .at) .datagrams)
+        carriedAfter (consumer u) (x .history) (scanAt u p (x .at) .datagrams)
+        ≡ carriedAfter (consumer u) (start .history) (scanAt u p (start .at) .datagrams)
     pub passed : x .passed + scanAt u p (x .at) .passed ≡ start .passed + scanAt u p (start .at) .passed
-    pub used : x .used + length (textOf u (keptIn x) (scanAt u p (x .at))) ≡ start .used + length (textOf u (keptIn start) (scanAt u p (start .at)))
-    pub text : sets b (x .used) (textOf u (keptIn x) (scanAt u p (x .at))) ≡ sets b₀ (start .used) (textOf u (keptIn start) (scanAt u p (start .at)))
+    pub used : x .used + length (textOf u (x .history) (scanAt u p (x .at))) ≡ start .used + length (textOf u (start .history) (scanAt u p (start .at)))
+    pub text : sets b (x .used) (textOf u (x .history) (scanAt u p (x .at))) ≡ sets b₀ (start .used) (textOf u (start .history) (scanAt u p (start .at)))
     pub held : scanAt u p (x .at) .held ≡ scanAt u p (start .at) .held
 
-  pub going-start : Ready u start (length p) (length b₀) → Going start b₀
-  going-start R = record { ready = R; same = refl; kept = refl; passed = refl; used = refl; text = refl; held = refl }
+  pub invariant-start : Ready u start (length p) (length b₀) → Invariant start b₀
+  invariant-start R = record { ready = R; same = refl; kept = refl; passed = refl; used = refl; text = refl; held = refl }
 
-  module _ (x : Progress) (b : List ℕ) (G : Going x b) (n : ℕ) where
+  module _ (x : Progress) (b : List ℕ) (G : Invariant x b) (n : ℕ) where
     -- a datagram, and its line
     module _ (w : IsWhole u (drop (x .at) p) n) where
       abbrev it : List ℕ
@@ -120,13 +121,13 @@ module _ (u : Setup) (start : Progress) (p b₀ : List ℕ) where
           scan-whole u (G .ready .accepted) (drop (x .at) p) n w
           ∙ ap (λ (l : List ℕ). passing n (handing it (scan (verdictOf u) l))) next-place
 
-      lined : textOf u (keptIn x) (scanAt u p (x .at)) ≡ nextLine u (keptIn x) it ++ textOf u (steps (consumer u) (keptIn x) it) then-on
-      lined = ap (textOf u (keptIn x)) scanned ∙ text-more u (keptIn x) n it then-on
+      lined : textOf u (x .history) (scanAt u p (x .at)) ≡ nextLine u (x .history) it ++ textOf u (steps (consumer u) (x .history) it) then-on
+      lined = ap (textOf u (x .history)) scanned ∙ text-more u (x .history) n it then-on
 
-      pub going-next : Going (nextOf u x n it) (sets b (x .used) (nextLine u (keptIn x) it))
+      pub invariant-next : Invariant (nextOf u x n it) (sets b (x .used) (nextLine u (x .history) it))
       unfolding nextOf carriedAfter
-      going-next =
-          let k = keptIn x in
+      invariant-next =
+          let k = x .history in
           let line = nextLine u k it in
           let text = textOf u (steps (consumer u) k it) then-on in
           record {
@@ -149,14 +150,14 @@ module _ (u : Setup) (start : Progress) (p b₀ : List ℕ) where
       opened : scanAt u p (x .at) ≡ passing n (holding (drop n (drop (x .at) p)))
       opened = scan-open u (G .ready .accepted) (drop (x .at) p) n w
 
-      unlined : textOf u (keptIn x) (scanAt u p (x .at)) ≡ []
-      unlined = ap (textOf u (keptIn x)) opened ∙ text-none u (keptIn x) n (drop n (drop (x .at) p))
+      unlined : textOf u (x .history) (scanAt u p (x .at)) ≡ []
+      unlined = ap (textOf u (x .history)) opened ∙ text-none u (x .history) n (drop n (drop (x .at) p))
 
-      pub going-stop : Through u start p b₀ b (stopped x n)
+      pub finished-stop : Finished u start p b₀ b (stopped x n)
       unfolding carriedAfter
-      going-stop =
+      finished-stop =
           record {
-            kept = sym (ap (λ (g : Scanned). carriedAfter (consumer u) (keptIn x) (g .datagrams)) opened) ∙ G .kept;
+            kept = sym (ap (λ (g : Scanned). carriedAfter (consumer u) (x .history) (g .datagrams)) opened) ∙ G .kept;
             passed = omega (arith, G .passed, ap (λ (g : Scanned). g .passed) opened);
             used = omega (arith, G .used, ap length unlined);
             text = sym (ap (sets b (x .used)) unlined) ∙ G .text;
@@ -167,73 +168,49 @@ module _ (u : Setup) (start : Progress) (p b₀ : List ℕ) where
           }
 
   -- no more bytes
-  pub going-all : (x : Progress) (b : List ℕ) → Going x b → length p ≤ x .at → Through u start p b₀ b x
+  pub finished-all : (x : Progress) (b : List ℕ) → Invariant x b → length p ≤ x .at → Finished u start p b₀ b x
   unfolding first
-  going-all x b G h =
+  finished-all x b G h =
       let none : drop (x .at) p ≡ [] = drop-of-length-le p {i = x .at} h in
       let w : IsOpen u (drop (x .at) p) 0 =
       subst (λ (l : List ℕ). IsOpen u l 0) (sym none)
       (record { scan = refl; within = omega arith; short = omega (arith, accepted-length u (G .ready .accepted) .0) }) in
       let same : stopped x 0 ≡ x =
-      λ i. record { datagrams = x .datagrams; passed = add-zero (x .passed) i; previous = x .previous; axes = x .axes; at = add-zero (x .at) i; used = x .used } in
-      subst (Through u start p b₀ b) same (going-stop x b G 0 w)
+      λ i. record { history = x .history; passed = add-zero (x .passed) i; at = add-zero (x .at) i; used = x .used } in
+      subst (Finished u start p b₀ b) same (finished-stop x b G 0 w)
 
 -- ---- the answer behind a piece that was gone through
 
 -- a session may go through a piece from a place on
 pub ready-start :
-    (s : Session) (p : List ℕ) (room : ℕ) → Let s (length p) room → Ready (s .setup) (startOf s 0 0) (length p) room
+    (s : Session) (p : List ℕ) (room : ℕ) → Permitted s (length p) room → Ready (s .setup) (startOf s 0 0) (length p) room
 ready-start s p room a =
-    let F = sound-facts s (a .sound) in
+    let A = admitted s (length p) (a .admitted) in
+    let F = sound-facts s (A .sound) in
     record {
       accepted = F .accepted;
       within = omega arith;
-      most = a .piece;
+      most = A .piece;
       axes = F .axes;
-      few = omega (arith, F .sum, a .session);
-      passed = omega (arith, F .sum, a .session);
-      roomy = omega (arith, a .piece, a .enough);
+      few = omega (arith, F .sum, A .session);
+      passed = omega (arith, F .sum, A .session);
+      roomy = omega (arith, A .piece, a .enough);
     }
 
-pub made-through :
-    (s : Session) (at used : ℕ) (p b b′ held : List ℕ) (r : Progress) → Through (s .setup) (startOf s at used) p b b′ r
-    → held ≡ padded 64 (take (length p - r .at) (drop (r .at) p))
-    → Made s used (scanAt (s .setup) p at) (length p - at) b b′
-    (record {
-      answer = Lines (r .used);
-      session =
-          record {
-            setup = s .setup;
-            held = held;
-            count = length p - r .at;
-            datagrams = datagrams (r .datagrams);
-            passed = r .passed;
-            fed = s .fed + (length p - at);
-            previous = r .previous;
-            axes = r .axes;
-          };
-    })
+pub answered-finished :
+    (s : Session) (at used : ℕ) (p b b′ : List ℕ) (r : Progress) (t : Session) → rulingOn (s .setup) ≡ Accepted
+    → Finished (s .setup) (startOf s at used) p b b′ r
+    → t ≡ sessionWith (s .setup) (r .history) (r .passed) (s .fed + (length p - at)) (take 64 (take (length p - r .at) (drop (r .at) p)))
+    → Answered s used (scanAt (s .setup) p at) (length p - at) b b′ (record { answer = Lines (r .used); session = t })
 unfolding batchBy
-made-through s at used p b b′ held r T e =
-    let h : held ≡ padded 64 (scanAt (s .setup) p at .held) = e ∙ ap (padded 64) (to-end p (r .at) ∙ T .held) in
-    let n : length p - r .at ≡ length (scanAt (s .setup) p at .held) = sym (length-drop (r .at) p) ∙ ap length (T .held) in
+answered-finished s at used p b b′ r t a T e =
+    let rest = take (length p - r .at) (drop (r .at) p) in
+    let few : length rest ≤ 64 = omega (arith, ap length (to-end p (r .at)), length-drop (r .at) p, T .short, accepted-length (s .setup) a .1) in
+    let held : take 64 rest ≡ scanAt (s .setup) p at .held = take-all 64 rest few ∙ to-end p (r .at) ∙ T .held in
+    let session : t ≡ sessionOf (s .setup) (behindBy s (scanAt (s .setup) p at) (length p - at)) =
+    e ∙ λ i. sessionWith (s .setup) (T .kept i) (T .passed i) (s .fed + (length p - at)) (held i) in
     record {
-      batch =
-          λ i.
-          record {
-            answer = Lines (T .used i);
-            session =
-                record {
-                  setup = s .setup;
-                  held = h i;
-                  count = n i;
-                  datagrams = datagrams (T .kept i .datagrams);
-                  passed = T .passed i;
-                  fed = s .fed + (length p - at);
-                  previous = T .kept i .previous;
-                  axes = T .kept i .axes;
-                };
-          };
+      batch = λ i. record { answer = Lines (T .used i); session = session i };
       text = T .text;
       fits = omega (arith, T .used, T .fits);
     }

@@ -1,4 +1,4 @@
--- A session and what it stands for: which sessions 10 turns down, there and back.
+-- A session and the scan's state that it is: which of them 10 turns down, there and back.
 -- Assumes nothing.
 use Prim.Native.Nat.{ℕ, zero, suc, _-_, _*_}
 use mathlib.Core.Path.{_≡_, refl, sym, ap, _∙_}
@@ -17,42 +17,43 @@ use Rattle.scan.specs.Front.{heldRule}
 use Rattle.scan.proofs.CallsLaws.{and-true}
 use Rattle.scan.proofs.RunLaws.{Safe}
 use Rattle.session.specs.Session.{limits, heldBytes, allZero, axesRight, isSound, padded}
+use Rattle.session.specs.declared.History.{History}
 use Rattle.session.specs.declared.Session.{Session}
 use Rattle.session.proofs.Padding.{padded-front, padded-rest}
-use Rattle.receiver.specs.Feed.{Kept, keptRight, consumer, SessionMeaning, meaning, sessionOf}
+use Rattle.receiver.specs.Feed.{historyRight, consumer, SessionState, stateOf, sessionOf}
 use Rattle.session.proofs.Soundness.{Facts, sound-facts, facts-sound}
 
 -- what is asked of a session of a setup
-abbrev pub SafeOf : Setup → SessionMeaning → Type 0
+abbrev pub SafeOf : Setup → SessionState → Type 0
 SafeOf u t = Safe (consumer u) (heldRule (u .identifier) (lengthOf u)) limits t
 
 -- ---- what refusal 10 asks of what is kept, by parts
 
-module _ (u : Setup) (n : ℕ) (x : Kept) where
-  pub kept-parts : keptRight u n x ≡ true → (n ≡ lengthOf u * x .datagrams) × (axesRight u (x .datagrams) (x .axes) ≡ true)
-  unfolding keptRight
-  kept-parts e =
-      let a = and-split (eqb n (lengthOf u * x .datagrams)) (axesRight u (x .datagrams) (x .axes)) e in
-      (eqb-true n (lengthOf u * x .datagrams) (a .0), a .1)
+module _ (u : Setup) (n : ℕ) (x : History) where
+  pub history-parts : historyRight u n x ≡ true → (n ≡ lengthOf u * x .datagrams .0) × (axesRight u (x .datagrams .0) (x .axes) ≡ true)
+  unfolding historyRight
+  history-parts e =
+      let a = and-split (eqb n (lengthOf u * x .datagrams .0)) (axesRight u (x .datagrams .0) (x .axes)) e in
+      (eqb-true n (lengthOf u * x .datagrams .0) (a .0), a .1)
 
-  pub parts-kept : n ≡ lengthOf u * x .datagrams → axesRight u (x .datagrams) (x .axes) ≡ true → keptRight u n x ≡ true
-  unfolding keptRight
-  parts-kept e a = and-true (eq-eqb n (lengthOf u * x .datagrams) e) a
+  pub parts-history : n ≡ lengthOf u * x .datagrams .0 → axesRight u (x .datagrams .0) (x .axes) ≡ true → historyRight u n x ≡ true
+  unfolding historyRight
+  parts-history e a = and-true (eq-eqb n (lengthOf u * x .datagrams .0) e) a
 
 -- ---- a session that 10 doesn't turn down stands for a safe one
 
 pub count-held : (s : Session) → Facts s → length (heldBytes s) ≡ s .count
 count-held s F = length-take-le (s .count) (s .held) (F .within)
 
-pub facts-safe : (s : Session) → Facts s → SafeOf (s .setup) (meaning s)
+pub facts-safe : (s : Session) → Facts s → SafeOf (s .setup) (stateOf s)
 facts-safe s F =
     record {
       scan = record { ruled = F .held; sum = omega (arith, F .sum, count-held s F); most = F .most };
-      fit = parts-kept (s .setup) (lengthOf (s .setup) * s .datagrams .0) (meaning s .carried) refl (F .axes);
+      fit = parts-history (s .setup) (lengthOf (s .setup) * s .history .datagrams .0) (stateOf s .carried) refl (F .axes);
     }
 
-pub meaning-safe : (s : Session) → isSound s ≡ true → SafeOf (s .setup) (meaning s)
-meaning-safe s e = facts-safe s (sound-facts s e)
+pub state-safe : (s : Session) → isSound s ≡ true → SafeOf (s .setup) (stateOf s)
+state-safe s e = facts-safe s (sound-facts s e)
 
 -- ---- and back
 
@@ -69,11 +70,11 @@ zero-zeros (b ∷ l) e =
     let z : b ≡ 0 = eqb-true b 0 (p .0) in
     rw z (ap (λ (k : List ℕ). 0 ∷ k) (zero-zeros l (p .1)))
 
-module _ (u : Setup) (ok : rulingOn u ≡ Accepted) (t : SessionMeaning) (Z : SafeOf u t) where
+module _ (u : Setup) (ok : rulingOn u ≡ Accepted) (t : SessionState) (Z : SafeOf u t) where
   -- the session of such a one stands for it
-  pub meaning-of : meaning (sessionOf u t) ≡ t
-  meaning-of =
-      let e = kept-parts u (t .scan .handed) (t .carried) (Z .fit) .0 in
+  pub state-of : stateOf (sessionOf u t) ≡ t
+  state-of =
+      let e = history-parts u (t .scan .handed) (t .carried) (Z .fit) .0 in
       λ i.
       record {
         scan =
@@ -85,7 +86,7 @@ module _ (u : Setup) (ok : rulingOn u ≡ Accepted) (t : SessionMeaning) (Z : Sa
   pub session-sound : isSound (sessionOf u t) ≡ true
   session-sound =
       let l = t .scan .held in
-      let k = kept-parts u (t .scan .handed) (t .carried) (Z .fit) in
+      let k = history-parts u (t .scan .handed) (t .carried) (Z .fit) in
       facts-sound (sessionOf u t)
       (record {
         accepted = ok;
@@ -98,8 +99,8 @@ module _ (u : Setup) (ok : rulingOn u ≡ Accepted) (t : SessionMeaning) (Z : Sa
       })
 
 -- a session of 64 bytes is that of what it stands for
-pub session-meaning : (s : Session) → isSound s ≡ true → length (s .held) ≡ 64 → sessionOf (s .setup) (meaning s) ≡ s
-session-meaning s e n =
+pub session-state : (s : Session) → isSound s ≡ true → length (s .held) ≡ 64 → sessionOf (s .setup) (stateOf s) ≡ s
+session-state s e n =
     let F = sound-facts s e in
     let c = count-held s F in
     let m : length (drop (s .count) (s .held)) ≡ 64 - length (heldBytes s) = omega (arith, length-drop (s .count) (s .held)) in
@@ -113,9 +114,7 @@ session-meaning s e n =
       setup = s .setup;
       held = h i;
       count = c i;
-      datagrams = s .datagrams;
       passed = s .passed;
       fed = s .fed;
-      previous = s .previous;
-      axes = s .axes;
+      history = s .history;
     }

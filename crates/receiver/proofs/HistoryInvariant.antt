@@ -13,30 +13,33 @@ use Rattle.setup.specs.declared.Setup.{Setup}
 use Rattle.setup.specs.declared.Ruling.the-variants.{Accepted}
 use Rattle.wire.specs.Fields.{fieldsOf}
 use Rattle.wire.proofs.FieldRanges.{fields-fit}
+use Rattle.motion.specs.Totals.{stepped}
 use Rattle.scan.specs.Carry.{Keeps}
 use Rattle.search.specs.Search.{isDatagram}
 use Rattle.session.specs.Session.{axesRight}
-use Rattle.receiver.specs.Feed.{Kept, axesAfter, keptNext, keptRight, nothingKept, consumer}
+use Rattle.session.specs.History.{noHistory, historyNext}
+use Rattle.session.specs.declared.History.{History}
+use Rattle.receiver.specs.Feed.{historyAfter, historyRight, consumer}
 use Rattle.session.proofs.AxisLaws.{axes-step, none-right}
 use Rattle.search.proofs.ByteLists.{datagram-parts}
 use Rattle.search.proofs.Datagrams.{shaped}
-use Rattle.receiver.proofs.Meanings.{kept-parts, parts-kept}
+use Rattle.receiver.proofs.Refinement.{history-parts, parts-history}
 
 module _ (u : Setup) (ok : rulingOn u ≡ Accepted) where
-  start-right : keptRight u 0 nothingKept ≡ true
-  start-right = parts-kept u 0 nothingKept (omega (arith, mul-zero (lengthOf u))) (none-right u)
+  start-right : historyRight u 0 noHistory ≡ true
+  start-right = parts-history u 0 noHistory (omega (arith, mul-zero (lengthOf u))) (none-right u)
 
   next-right :
-      (n : ℕ) (x : Kept) (first : Bool) (d : List ℕ) → isDatagram u d ≡ true → keptRight u n x ≡ true
-      → keptRight u (n + length d) (keptNext u first x d) ≡ true
-  unfolding keptNext
+      (n : ℕ) (x : History) (first : Bool) (d : List ℕ) → isDatagram u d ≡ true → historyRight u n x ≡ true
+      → historyRight u (n + length d) (historyAfter u first x d) ≡ true
+  unfolding historyAfter historyNext
   next-right n x first d a e =
-      let p = kept-parts u n x e in
+      let p = history-parts u n x e in
       let c = fieldsOf (u .identifier) d in
       let l : length d ≡ lengthOf u = shaped u ok .long d a in
-      let g = axes-step u (x .datagrams) (x .axes) (c .readings) (c .statuses) (fields-fit (u .identifier) d (datagram-parts u d a .0) .readings) (p .1) in
-      parts-kept u (n + length d) (keptNext u first x d) (omega (arith, p .0, mul-add (lengthOf u) (x .datagrams) 1, mul-one (lengthOf u)))
-      (subst (λ (k : ℕ). axesRight u k (axesAfter u (x .axes) c) ≡ true) (sym (add-one (x .datagrams))) g)
+      let g = axes-step u (x .datagrams .0) (x .axes) (c .readings) (c .statuses) (fields-fit (u .identifier) d (datagram-parts u d a .0) .readings) (p .1) in
+      parts-history u (n + length d) (historyAfter u first x d) (omega (arith, p .0, mul-add (lengthOf u) (x .datagrams .0) 1, mul-one (lengthOf u)))
+      (subst (λ (k : ℕ). axesRight u k (stepped u (x .axes) (c .readings) (c .statuses)) ≡ true) (sym (add-one (x .datagrams .0))) g)
 
   pub kept : Keeps (consumer u) (isDatagram u)
   kept = record { at-start = start-right; at-step = λ n x d a e. next-right n x _ d a e }

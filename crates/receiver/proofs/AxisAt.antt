@@ -17,9 +17,10 @@ use Rattle.motion.proofs.Bounds.{keptAfter, after-next, after-not-kept, after-w
 use Rattle.motion.proofs.NineAxes.{each, step-at, total-at, double-at}
 use Rattle.scan.specs.Carry.{steps, carriedAfter}
 use Rattle.scan.proofs.CarryLaws.{told-at, told-beyond}
-use Rattle.session.specs.Session.{noAxis, noAxes}
+use Rattle.session.specs.History.{noAxis, noAxes, noHistory, awaitsFirst, historyNext}
+use Rattle.session.specs.declared.History.{History}
 use Rattle.receiver.specs.declared.Datagram.{Datagram}
-use Rattle.receiver.specs.Feed.{Kept, nothingKept, axesAfter, datagramWith, keptNext, tell, consumer, noDatagram}
+use Rattle.receiver.specs.Feed.{datagramWith, historyAfter, tell, consumer, noDatagram}
 use Rattle.receiver.specs.Promises.{answersFor, sighting, sightings, shiftOf}
 
 -- by 01's rule for one axis, up to 2 ^ 30 datagrams
@@ -61,10 +62,10 @@ module _ (u : Setup) (group axis : ℕ) where
 
     -- what is kept of the axis after datagrams
     axis-carried :
-        (x : Kept) (ds : List (List ℕ))
+        (x : History) (ds : List (List ℕ))
         → axisAt (carriedAfter (consumer u) x ds .axes) group axis
         ≡ keptAfter (keeps u group) (axisAt (x .axes) group axis) (sightings u group axis ds)
-    unfolding carriedAfter keptNext keptAfter
+    unfolding carriedAfter historyAfter historyNext keptAfter
     axis-carried x [] = refl
     axis-carried x (d ∷ ds) =
         axis-carried (steps (consumer u) x d) ds
@@ -76,17 +77,17 @@ module _ (u : Setup) (group axis : ℕ) where
     axisThen ds i = keptAfter (keeps u group) noAxis (take (suc i) (sightings u group axis ds))
 
     module _ (ds : List (List ℕ)) (i : ℕ) (l : i < length ds) where
-      before : Kept
-      before = carriedAfter (consumer u) nothingKept (take i ds)
+      before : History
+      before = carriedAfter (consumer u) noHistory (take i ds)
 
-      axis-then : axisAt (axesAfter u (before .axes) (fieldsOf (u .identifier) (getD ds i []))) group axis ≡ axisThen ds i
-      unfolding before
+      axis-then : axisAt (historyAfter u (awaitsFirst before) before (getD ds i []) .axes) group axis ≡ axisThen ds i
+      unfolding before historyAfter historyNext
       axis-then =
           let d = getD ds i [] in
           let s = sightings u group axis ds in
           step-at u (before .axes) (fieldsOf (u .identifier) d .readings) (fieldsOf (u .identifier) d .statuses) group axis h k
           ∙ ap (λ (a : Axis). keptStep (keeps u group) a (sighting u group axis d))
-          (axis-carried nothingKept (take i ds)
+          (axis-carried noHistory (take i ds)
           ∙ ap (λ (a : Axis). keptAfter (keeps u group) a (sightings u group axis (take i ds))) no-axis
           ∙ ap (keptAfter (keeps u group) noAxis) (sym (take-map (sighting u group axis) ds i)))
           ∙ ap (keptStep (keeps u group) (keptAfter (keeps u group) noAxis (take i s))) (sym (sighting-at ds i l))
@@ -95,15 +96,15 @@ module _ (u : Setup) (group axis : ℕ) where
       pub total-then : totalAt (getD (answersFor u ds) i noDatagram .totals) group axis ≡ totalOf (axisThen ds i)
       unfolding tell datagramWith before
       total-then =
-          ap (λ (o : Datagram). totalAt (o .totals) group axis) (told-at (consumer u) nothingKept ds i noDatagram l)
-          ∙ total-at (axesAfter u (before .axes) (fieldsOf (u .identifier) (getD ds i []))) group axis h k
+          ap (λ (o : Datagram). totalAt (o .totals) group axis) (told-at (consumer u) noHistory ds i noDatagram l)
+          ∙ total-at (historyAfter u (awaitsFirst before) before (getD ds i []) .axes) group axis h k
           ∙ ap totalOf axis-then
 
       pub double-then : doubleAt (getD (answersFor u ds) i noDatagram .doubles) group axis ≡ totalDouble (axisThen ds i) (shiftOf u group)
       unfolding tell datagramWith before
       double-then =
-          ap (λ (o : Datagram). doubleAt (o .doubles) group axis) (told-at (consumer u) nothingKept ds i noDatagram l)
-          ∙ double-at u (axesAfter u (before .axes) (fieldsOf (u .identifier) (getD ds i []))) group axis h k
+          ap (λ (o : Datagram). doubleAt (o .doubles) group axis) (told-at (consumer u) noHistory ds i noDatagram l)
+          ∙ double-at u (historyAfter u (awaitsFirst before) before (getD ds i []) .axes) group axis h k
           ∙ ap (λ (a : Axis). totalDouble a (shiftOf u group)) axis-then
 
       -- a total grows by at most 2 ^ 23 with a datagram
@@ -138,8 +139,8 @@ module _ (u : Setup) (group axis : ℕ) where
           double-then ds i l ∙ ap (λ (a : Axis). totalDouble a (shiftOf u group)) same ∙ sym (double-then es i (omega (arith, long))),
         )
         go (no n) =
-            let p = told-beyond (consumer u) nothingKept ds i noDatagram (omega arith) in
-            let q = told-beyond (consumer u) nothingKept es i noDatagram (omega (arith, long)) in (
+            let p = told-beyond (consumer u) noHistory ds i noDatagram (omega arith) in
+            let q = told-beyond (consumer u) noHistory es i noDatagram (omega (arith, long)) in (
               ap (λ (o : Datagram). totalAt (o .totals) group axis) (p ∙ sym q),
               ap (λ (o : Datagram). doubleAt (o .doubles) group axis) (p ∙ sym q),
             )

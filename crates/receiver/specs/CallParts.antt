@@ -1,5 +1,5 @@
 -- One call of feed by its parts: what the code hands from function to function.
-use Prim.Native.Nat.{ℕ, _+_, _-_, _^_, _≤_}
+use Prim.Native.Nat.{ℕ, _+_, _-_, _<_}
 use mathlib.Core.List.{List, [], _∷_}
 use lib.IntN.{ℤ}
 use lib.ListN.{length}
@@ -8,9 +8,10 @@ use Rattle.wire.specs.declared.Fields.{Fields}
 use Rattle.scan.specs.Scan.{First, ends, finds}
 use Rattle.scan.specs.Calls.{taking}
 use Rattle.scan.specs.Carry.{carrying}
+use Rattle.session.specs.History.{greatestCount}
 use Rattle.session.specs.declared.Session.{Session}
 use Rattle.receiver.specs.declared.Reply.{Reply}
-use Rattle.receiver.specs.Feed.{consumer, meaning, replyOf}
+use Rattle.receiver.specs.Feed.{consumer, stateOf, replyOf}
 
 -- the contents of a datagram from its readings and its other fields
 abbrev pub contentsOf : List (List ℤ) → Fields → Contents
@@ -27,16 +28,16 @@ contentsOf readings f =
     }
 
 -- the answer of a call that takes k bytes, with which the scan comes to f
-unfoldable pub turnOf : Session → ℕ → First → Reply
-turnOf s k f = replyOf s (carrying (consumer (s .setup)) (meaning s) (taking (meaning s .scan) k f))
+unfoldable pub replyAfter : Session → ℕ → First → Reply
+replyAfter s k f = replyOf s (carrying (consumer (s .setup)) (stateOf s) (taking (stateOf s .scan) k f))
 
 -- the same where f is the scan of the bytes held and the whole piece p: the bytes behind a datagram aren't taken
-abbrev pub turnAtOnce : Session → List ℕ → First → Reply
-turnAtOnce s p (ends n h) = turnOf s (length p) (ends n h)
-turnAtOnce s p (finds n d r) = turnOf s (length p - length r) (finds n d [])
+abbrev pub replyAtOnce : Session → List ℕ → First → Reply
+replyAtOnce s p (ends n h) = replyAfter s (length p) (ends n h)
+replyAtOnce s p (finds n d r) = replyAfter s (length p - length r) (finds n d [])
 
 -- the counts of a session leave room for one more datagram and n more bytes
 pub record Room (s : Session) (n : ℕ) : Type 0 where
-  pub datagrams : s .datagrams .0 ≤ 2 ^ 34
-  pub passed : s .passed + n ≤ 2 ^ 40
-  pub fed : s .fed + n ≤ 2 ^ 40
+  pub datagrams : s .history .datagrams .0 < greatestCount
+  pub passed : s .passed + n < greatestCount
+  pub fed : s .fed + n < greatestCount
