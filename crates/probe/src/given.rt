@@ -7,6 +7,7 @@ use motion::GroupAxes;
 use motion::GroupTotals;
 use motion::Total;
 use motion::Totals;
+use session::History;
 use session::Session;
 use setup::Setup;
 ghost use Prim.Native.Nat.{_≤_};
@@ -124,15 +125,18 @@ pub fn session_of(s: &[u8]) -> Session {
         accelerometer: group_axes_at(s, 153),
         inclinometer: group_axes_at(s, 192),
     };
+    let history = History {
+        datagrams: Datagrams(u64_at(s, 89)),
+        previous: byte_at(s, 113),
+        axes: axes,
+    };
     Session {
         setup: setup,
         held: held,
         count: u64_at(s, 81) as usize,
-        datagrams: Datagrams(u64_at(s, 89)),
         passed: u64_at(s, 97),
         fed: u64_at(s, 105),
-        previous: byte_at(s, 113),
-        axes: axes,
+        history: history,
     }
 }
 

@@ -141,15 +141,16 @@ fn put_axes(axes: Axes) {
 // A line with every field of a session.
 pub fn put_session(session: Session) {
     let held = session.held;
+    let history = session.history;
     put_text(b"session");
     put_setup(session.setup);
     put_bytes(&held[..]);
     put_number(session.count as u64);
-    put_number(session.datagrams.0);
+    put_number(history.datagrams.0);
     put_number(session.passed);
     put_number(session.fed);
-    put_number(session.previous as u64);
-    put_axes(session.axes);
+    put_number(history.previous as u64);
+    put_axes(history.axes);
     end_line();
 }
 
