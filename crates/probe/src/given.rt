@@ -86,7 +86,9 @@ pub fn setup_of(s: &[u8]) -> Setup {
     }
 }
 
-// The session of a record.
+// The session of a record, and how many bytes it takes there.
+pub const SESSION_SIZE: usize = 231;
+
 fn held_of(s: &[u8]) -> [u8; 64] {
     let mut held = [0u8; 64];
     let mut i: usize = 0;

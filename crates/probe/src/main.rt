@@ -2,17 +2,18 @@
 // row of records: a byte for the kind, two bytes for the length of what follows, then that. Numbers have their least significant byte
 // first, signed ones are two's complement. The kinds, with the place of each value:
 //     1, a setup to judge and to open: the setup (0)
-//     2, a call of feed: the session (0), the piece (231)
+//     2, a call of feed: the session (0), the piece behind it
 //     3, a text line: the setup (0), ordinal (17), counter (25), latency (26), 1 for off step (28), missed (29), nine readings (37), three
 //        statuses (73), nine totals (76) of a begun mark and a value, the buffer's length (157), the byte that fills it (159)
 //     4, a setup line: its bytes (0)
-//     5, a whole piece at once: the session (0), the buffer's length (231), the byte that fills it (235), the piece (236)
+//     5, a whole piece at once: the session (0), behind it the buffer's length (0), the byte that fills it (4), the piece (5)
 // A setup is rate, identifier (one byte), termination, three units and three shifts. A session is the setup (0), held bytes (17), their
 // count (81), datagrams (89), bytes passed over (97), bytes fed (105), the previous counter (113), nine axes (114) of a begun mark, a last
 // reading and a total. A truncated record ends the program.
 mod given;
 mod shown;
 
+use given::SESSION_SIZE;
 use given::byte_at;
 use given::gap_of;
 use given::grid_of;
@@ -56,10 +57,10 @@ fn setup_record(s: &[u8]) {
 
 // A call of feed.
 fn feed_record(s: &[u8]) {
-    if s.len() < 231 {
+    if s.len() < SESSION_SIZE {
         return;
     }
-    let reply = receiver::feed(session_of(s), &s[231..]);
+    let reply = receiver::feed(session_of(s), &s[SESSION_SIZE..]);
     let answer = reply.answer;
     put_text(b" feed");
     put_answer(answer);
@@ -182,13 +183,13 @@ fn filled_for_lines(fill: u8) -> [u8; 72001]
 
 // A whole piece at once, with all of the buffer behind the answer.
 fn lines_record(s: &[u8]) {
-    if s.len() < 236 {
+    if s.len() < SESSION_SIZE + 5 {
         return;
     }
-    let room = (u32_at(s, 231) % 72002) as usize;
-    let fill = byte_at(s, 235);
+    let room = (u32_at(s, SESSION_SIZE) % 72002) as usize;
+    let fill = byte_at(s, SESSION_SIZE + 4);
     let mut buffer = filled_for_lines(fill);
-    let batch = lines::receive_lines(session_of(s), &s[236..], &mut buffer[0..room]);
+    let batch = lines::receive_lines(session_of(s), &s[SESSION_SIZE + 5..], &mut buffer[0..room]);
     put_text(b" lines");
     put_batch(batch, buffer, room, fill);
 }

@@ -155,24 +155,17 @@ pub fn put_session(session: Session) {
 }
 
 // The unit of a group and its three doubles.
+fn put_unit(unit: u64, x: f64, y: f64, z: f64) {
+    put_number(unit);
+    put_doubles(x, y, z);
+}
+
 fn put_values(values: Values) {
     match values {
-        Values::Instantaneous(x, y, z) => {
-            put_number(0);
-            put_doubles(x, y, z);
-        }
-        Values::Incremental(x, y, z) => {
-            put_number(1);
-            put_doubles(x, y, z);
-        }
-        Values::Average(x, y, z) => {
-            put_number(2);
-            put_doubles(x, y, z);
-        }
-        Values::Integrated(x, y, z) => {
-            put_number(3);
-            put_doubles(x, y, z);
-        }
+        Values::Instantaneous(x, y, z) => put_unit(0, x, y, z),
+        Values::Incremental(x, y, z) => put_unit(1, x, y, z),
+        Values::Average(x, y, z) => put_unit(2, x, y, z),
+        Values::Integrated(x, y, z) => put_unit(3, x, y, z),
     }
 }
 
