@@ -1,10 +1,10 @@
--- `probe::held_of` is safe and ends. Assumes nothing.
+-- `probe::given::held_of` is safe and ends. Assumes nothing.
 use Prim.Native.Nat.{_-_, _≤_}
 use mathlib.Core.Path.{_≡_}
 use lib.ListN.{length}
 use borrow.Author.Needs.{needs}
-use Rattle.probe.proofs.held_of.Statement.{statement}
-use Rattle.probe.proofs.held_of.Tie as tie
+use Rattle.probe.proofs.given.held_of.Statement.{statement}
+use Rattle.probe.proofs.given.held_of.Tie as tie
 
 abbrev Inv-loop : tie.InvT-loop
 Inv-loop s held₀ i₀ held i = (i ≤ 64) × (length held ≡ 64)

@@ -1,4 +1,4 @@
--- `probe::signed_of` is safe: no difference leaves its type. Assumes nothing.
+-- `probe::given::signed_of` is safe: no difference leaves its type. Assumes nothing.
 use mathlib.Core.Path.{_≡_}
 use Prim.Native.Nat.{_-_}
 use native.Mathlib.Omega.{arith}
@@ -9,8 +9,8 @@ use mir.ValLaws.{toZ-pos}
 use Rattle.integers.proofs.Parts.{sub-parts, parts-apart}
 use Rattle.integers.proofs.Signed.{sfits-of-parts}
 use borrow.Author.Needs.{needs}
-use Rattle.probe.proofs.signed_of.Statement.{statement}
-use Rattle.probe.proofs.signed_of.Tie as tie
+use Rattle.probe.proofs.given.signed_of.Statement.{statement}
+use Rattle.probe.proofs.given.signed_of.Tie as tie
 
 cast-result : tie.Need-cast-result
 cast-result c = search needs

@@ -1,11 +1,11 @@
--- `probe::bits_of` is safe: a double that equals itself is a number. Assumes nothing.
+-- `probe::shown::bits_of` is safe: a double that equals itself is a number. Assumes nothing.
 use mathlib.Core.Path.{_≡_, sym, subst}
 use mathlib.Core.Bool.{true, not}
 use lib.Dec.{T}
 use lib.Ieee.{Float, nan, inf, fin, eq, isNan}
 use borrow.Author.Needs.{needs}
-use Rattle.probe.proofs.bits_of.Statement.{statement}
-use Rattle.probe.proofs.bits_of.Tie as tie
+use Rattle.probe.proofs.shown.bits_of.Statement.{statement}
+use Rattle.probe.proofs.shown.bits_of.Tie as tie
 
 is-number : (x : Float) → T (eq x x) → T (not (isNan x))
 unfolding eq isNan
