@@ -82,7 +82,8 @@ bigEndian-injective (x ∷ xs) (y ∷ ys) h k l e =
     let p = 8 * length xs in
     let r : bigEndian xs < 2 ^ p = bigEndian-below xs (bytes-tail h) in
     let q : bigEndian ys < 2 ^ p = subst (λ (n : ℕ). bigEndian ys < 2 ^ (8 * n)) (sym m) (bigEndian-below ys (bytes-tail k)) in
-    let f : x * 2 ^ p + bigEndian xs ≡ y * 2 ^ p + bigEndian ys = subst (λ (n : ℕ). x * 2 ^ p + bigEndian xs ≡ y * 2 ^ (8 * n) + bigEndian ys) (sym m) e in
+    let f : x * 2 ^ p + bigEndian xs ≡ y * 2 ^ p + bigEndian ys =
+    subst (λ (n : ℕ). x * 2 ^ p + bigEndian xs ≡ y * 2 ^ (8 * n) + bigEndian ys) (sym m) e in
     let first : x ≡ y = sym (high x p r) ∙ ap (λ (n : ℕ). n / 2 ^ p) f ∙ high y p q in
     let rest : bigEndian xs ≡ bigEndian ys = sym (low x p r) ∙ ap (λ (n : ℕ). n % 2 ^ p) f ∙ low y p q in
     let tail : xs ≡ ys = bigEndian-injective xs ys (bytes-tail h) (bytes-tail k) m rest in

@@ -1,5 +1,5 @@
--- A whole number by its two parts: `posPart x` is x where x is above 0 and else 0, and `negPart x` is the same of -x. Each operation of `lib.IntN` has a law on the parts
--- that is linear, so `omega`, which reads no ℤ, proves a fact about whole numbers once it is stated on parts:
+-- A whole number by its two parts: `posPart x` is x where x is above 0 and else 0, and `negPart x` is the same of -x. Each operation of
+-- `lib.IntN` has a law on the parts that is linear, so `omega`, which reads no ℤ, proves a fact about whole numbers once it is stated on parts:
 --     an equation      parts-ext lhs rhs (omega (arith, add-parts .., sub-parts .., ..)), with one law for each operation that occurs
 --     a bound of size  natAbs-parts z and parts-apart z in omega's list
 -- Assumes nothing.

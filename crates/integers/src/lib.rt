@@ -43,18 +43,11 @@ pub fn reading_of(first: u8, second: u8, third: u8) -> i32
     z - 16777216
 }
 
-// z is 0, for a reading.
-pub fn is_zero(z: i32) -> bool
+// z is 0.
+pub fn is_zero(z: i64) -> bool
     ensures { λ r. ⌜ r ≡ isZero z ⌝ }
 {
     z == 0
-}
-
-// The same for a total.
-pub fn is_zero_wide(wide: i64) -> bool
-    ensures { λ r. ⌜ r ≡ isZero wide ⌝ }
-{
-    wide == 0
 }
 
 // The size of z. That of -2^63 is 2^63, which an i64 doesn't hold.

@@ -1,42 +1,40 @@
 -- The answer of receive_lines by its case. Assumes nothing.
-use Prim.Native.Nat.{ℕ, _+_, _-_, _^_, _≤_, _<_}
+use Prim.Native.Nat.{ℕ, _+_, _-_, _<_}
 use mathlib.Core.Path.{_≡_, refl, sym, ap, _∙_, subst}
-use mathlib.Core.Bool.{true, false}
-use mathlib.Core.List.{List, _++_}
+use mathlib.Core.List.{List, [], _∷_, _++_}
 use native.Mathlib.Nat.{zero-add, sub-zero}
 use native.Mathlib.Omega.{arith}
-use borrow.Author.Tests.{le-leb, lt-leb}
+use borrow.Author.Tests.{le-ltb, lt-ltb}
+use lib.Dec.{ltb}
 use lib.ListN.{length, take, drop}
+use Rattle.setup.specs.Setup.{rule, firstOf}
+use Rattle.setup.specs.declared.Ruling.{Ruling}
+use Rattle.setup.specs.declared.Ruling.the-variants.{Accepted, Refused}
+use Rattle.setup.proofs.Rules.{first-accepted, first-refused}
 use Rattle.text.proofs.Answers.{put-front}
 use Rattle.scan.specs.Scan.{Scanned, scan}
 use Rattle.search.specs.Search.{verdictOf}
-use Rattle.session.specs.Session.{isSound}
+use Rattle.session.specs.Session.{pieceRules, pieceRuling}
 use Rattle.session.specs.declared.Session.{Session}
-use Rattle.receiver.specs.Feed.{meaning, sessionOf}
+use Rattle.receiver.specs.Feed.{stateOf, sessionOf}
 use Rattle.lines.specs.declared.Received.the-variants.{Lines}
 use Rattle.lines.specs.declared.Batch.{Batch}
-use Rattle.lines.specs.Lines.{foundIn, linesIn, behind, refusing, bufferBy, batchOf, batchBuffer}
-use Rattle.lines.specs.Steps.{textOf, batchBy, scanAt, Made, Let}
+use Rattle.lines.specs.Lines.{foundIn, linesIn, behind, enough, refusing, bufferBy, batchWith, batchOf, batchBuffer}
+use Rattle.lines.specs.PieceParts.{textOf, batchBy, scanAt, Answered, Permitted}
 
 module _ (s : Session) (p b : List ℕ) where
   -- ---- what refuses the piece
 
-  pub ten : isSound s ≡ false → batchOf s p (length b) ≡ refusing s 10
-  unfolding batchOf
-  ten e = rw e
+  pub refused : {n : ℕ} → pieceRuling s (length p) ≡ Refused n → batchOf s p (length b) ≡ refusing s n
+  unfolding batchOf pieceRuling
+  refused e = ap (λ (r : Ruling). batchWith r s p) (first-refused (pieceRules s (length p)) (rule 14 (ltb (length b) enough) ∷ []) e)
 
-  pub eleven : isSound s ≡ true → 4096 < length p → batchOf s p (length b) ≡ refusing s 11
-  unfolding batchOf
-  eleven e h = rw (e, lt-leb (length p) 4096 h)
+  left-to-room : pieceRuling s (length p) ≡ Accepted → batchOf s p (length b) ≡ batchWith (firstOf (rule 14 (ltb (length b) enough) ∷ [])) s p
+  unfolding batchOf pieceRuling
+  left-to-room e = ap (λ (r : Ruling). batchWith r s p) (first-accepted (pieceRules s (length p)) (rule 14 (ltb (length b) enough) ∷ []) e)
 
-  pub twelve : isSound s ≡ true → length p ≤ 4096 → 2 ^ 34 < s .fed + length p → batchOf s p (length b) ≡ refusing s 12
-  unfolding batchOf
-  twelve e h k = rw (e, le-leb (length p) 4096 h, lt-leb (s .fed + length p) (2 ^ 34) k)
-
-  pub fourteen :
-      isSound s ≡ true → length p ≤ 4096 → s .fed + length p ≤ 2 ^ 34 → length b < 72000 → batchOf s p (length b) ≡ refusing s 14
-  unfolding batchOf
-  fourteen e h k l = rw (e, le-leb (length p) 4096 h, le-leb (s .fed + length p) (2 ^ 34) k, lt-leb 72000 (length b) l)
+  pub fourteen : pieceRuling s (length p) ≡ Accepted → length b < enough → batchOf s p (length b) ≡ refusing s 14
+  fourteen e l = left-to-room e ∙ rw (lt-ltb (length b) enough l)
 
   -- and writes nothing
   pub refused-keeps : (n : ℕ) {r : Batch} → r ≡ refusing s n → batchOf s p (length b) ≡ refusing s n → (r ≡ batchOf s p (length b)) × (b ≡ batchBuffer s p b)
@@ -46,26 +44,19 @@ module _ (s : Session) (p b : List ℕ) where
   -- ---- where nothing does
 
   pub all-lines :
-      Let s (length p) (length b) → batchOf s p (length b) ≡ record { answer = Lines (length (linesIn s p)); session = sessionOf (s .setup) (behind s p) }
-  unfolding batchOf
-  all-lines a =
-      rw (
-        a .sound,
-        le-leb (length p) 4096 (a .piece),
-        le-leb (s .fed + length p) (2 ^ 34) (a .session),
-        le-leb 72000 (length b) (a .enough),
-      )
+      Permitted s (length p) (length b) → batchOf s p (length b) ≡ record { answer = Lines (length (linesIn s p)); session = sessionOf (s .setup) (behind s p) }
+  all-lines a = left-to-room (a .admitted) ∙ rw (le-ltb (length b) enough (a .enough))
 
-  same-text : textOf (s .setup) (meaning s .carried) (foundIn s p) ≡ linesIn s p
+  same-text : textOf (s .setup) (stateOf s .carried) (foundIn s p) ≡ linesIn s p
   unfolding textOf linesIn
   same-text = refl
 
-  pub made-all :
-      Let s (length p) (length b) → {b′ : List ℕ} {r : Batch} → Made s 0 (foundIn s p) (length p) b b′ r
+  pub answered-all :
+      Permitted s (length p) (length b) → {b′ : List ℕ} {r : Batch} → Answered s 0 (foundIn s p) (length p) b b′ r
       → (r ≡ batchOf s p (length b)) × (b′ ≡ batchBuffer s p b)
   unfolding batchBuffer batchBy
-  made-all a {b′} {r} M =
-      let t = textOf (s .setup) (meaning s .carried) (foundIn s p) in
+  answered-all a {b′} {r} M =
+      let t = textOf (s .setup) (stateOf s .carried) (foundIn s p) in
       let n : 0 + length t ≡ length (linesIn s p) = zero-add (length t) ∙ ap length same-text in (
         M .batch ∙ ap (λ (m : ℕ). record { answer = Lines m; session = sessionOf (s .setup) (behind s p) }) n ∙ sym (all-lines a),
         M .text
@@ -75,8 +66,8 @@ module _ (s : Session) (p b : List ℕ) where
       )
 
   -- a session that holds nothing scans the piece alone
-  pub made-none :
-      s .count ≡ 0 → {b′ : List ℕ} {r : Batch} → Made s 0 (scanAt (s .setup) p 0) (length p - 0) b b′ r → Made s 0 (foundIn s p) (length p) b b′ r
-  made-none e {b′} {r} M =
+  pub answered-none :
+      s .count ≡ 0 → {b′ : List ℕ} {r : Batch} → Answered s 0 (scanAt (s .setup) p 0) (length p - 0) b b′ r → Answered s 0 (foundIn s p) (length p) b b′ r
+  answered-none e {b′} {r} M =
       let g : scanAt (s .setup) p 0 ≡ foundIn s p = ap (λ (n : ℕ). scan (verdictOf (s .setup)) (take n (s .held) ++ p)) (sym e) in
-      subst (λ (x : Scanned). Made s 0 x (length p) b b′ r) g (subst (λ (n : ℕ). Made s 0 (scanAt (s .setup) p 0) n b b′ r) (sub-zero (length p)) M)
+      subst (λ (x : Scanned). Answered s 0 x (length p) b b′ r) g (subst (λ (n : ℕ). Answered s 0 (scanAt (s .setup) p 0) n b b′ r) (sub-zero (length p)) M)

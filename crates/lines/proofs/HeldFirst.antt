@@ -1,5 +1,5 @@
 -- A piece behind bytes that are held: the call that completes the first datagram, and what is left of the piece. Assumes nothing.
-use Prim.Native.Nat.{ℕ, suc, _+_, _-_, _^_, _≤_}
+use Prim.Native.Nat.{ℕ, suc, _+_, _-_, _^_, _≤_, _<_}
 use mathlib.Core.Path.{_≡_, refl, sym, ap, _∙_, subst}
 use mathlib.Core.Bool.{false}
 use mathlib.Core.List.{List, [], _∷_, _++_}
@@ -12,31 +12,34 @@ use Rattle.setup.specs.Setup.{lengthOf}
 use Rattle.setup.specs.declared.Setup.{Setup}
 use Rattle.setup.proofs.Refusals.{accepted-length}
 use Rattle.wire.specs.Fields.{fieldsOf}
-use Rattle.motion.specs.Gaps.{datagrams}
 use Rattle.motion.specs.Totals.{totalsOf}
 use Rattle.text.specs.TextLine.{outside}
 use Rattle.scan.specs.Scan.{Scanned, First, ends, finds, first, passing, handing, holding, scan}
 use Rattle.scan.specs.Carry.{steps, carriedAfter}
-use Rattle.search.specs.Search.{verdictOf, placeOf}
-use Rattle.search.proofs.Places.{IsWhole, found-whole, found-open}
-use Rattle.session.specs.Session.{heldBytes, padded}
+use Rattle.search.specs.Search.{limitsOf, verdictOf, placeOf}
+use Rattle.search.proofs.Places.{IsComplete, complete-length, found-complete, found-undecided}
+use Rattle.session.specs.Session.{sessionWith, heldBytes}
+use Rattle.session.specs.History.{historyNext}
+use Rattle.session.specs.declared.History.{History}
 use Rattle.session.specs.declared.Session.{Session}
 use Rattle.session.proofs.Soundness.{Facts, sound-facts}
-use Rattle.receiver.specs.Feed.{Kept, keptNext, tell, datagramWith, consumer, meaning, feedOf}
-use Rattle.receiver.specs.Turns.{turnOf, turnAtOnce}
+use Rattle.session.proofs.PieceRulings.{Admitted, admitted}
+use Rattle.receiver.specs.Feed.{historyAfter, tell, datagramWith, consumer, stateOf, feedOf}
+use Rattle.receiver.specs.CallParts.{replyAfter, replyAtOnce}
 use Rattle.receiver.specs.declared.Answer.the-variants.{Datagram as HandedOut, Waiting}
 use Rattle.receiver.specs.declared.Reply.{Reply}
-use Rattle.receiver.proofs.Meanings.{count-held}
-use Rattle.receiver.proofs.Turns.{fed-at-once, count-less}
+use Rattle.receiver.proofs.Refinement.{count-held}
+use Rattle.receiver.proofs.CallParts.{count-less}
+use Rattle.receiver.proofs.OneLength.{fed-at-once}
 use Rattle.lines.specs.declared.Received.the-variants.{Lines}
 use Rattle.lines.specs.declared.Batch.{Batch}
-use Rattle.lines.specs.Lines.{lineOf, foundIn}
-use Rattle.lines.specs.Steps.{startOf, nextLine, textOf, batchBy, Ready, scanAt, Made, Let}
-use Rattle.lines.proofs.NextLines.{axesNext, right-next, line-inside, line-short, text-none, text-more}
+use Rattle.lines.specs.Lines.{lineOf, foundIn, enough}
+use Rattle.lines.specs.PieceParts.{startOf, nextLine, textOf, batchBy, Ready, scanAt, Answered, Permitted}
+use Rattle.lines.proofs.NextLines.{nextHistory, right-next, line-inside, line-short, text-none, text-more}
 use Rattle.lines.proofs.Placing.{sets-append}
-use Rattle.lines.proofs.Going.{scan-whole, scan-open, few-of}
+use Rattle.lines.proofs.LoopInvariant.{scan-complete, scan-open, few-of}
 
-module _ (s : Session) (p : List ℕ) (room : ℕ) (a : Let s (length p) room) where
+module _ (s : Session) (p : List ℕ) (room : ℕ) (a : Permitted s (length p) room) where
   abbrev setup : Setup
   setup = s .setup
 
@@ -44,27 +47,31 @@ module _ (s : Session) (p : List ℕ) (room : ℕ) (a : Let s (length p) room) w
   abbrev joint : List ℕ
   joint = heldBytes s ++ p
 
-  abbrev kept : Kept
-  kept = meaning s .carried
+  abbrev kept : History
+  kept = stateOf s .carried
+
+  allowed : Admitted s (length p)
+  allowed = admitted s (length p) (a .admitted)
 
   facts : Facts s
-  facts = sound-facts s (a .sound)
+  facts = sound-facts s (allowed .sound)
 
   held-count : length (heldBytes s) ≡ s .count
   held-count = count-held s facts
 
-  turned : (f : First) → first (verdictOf setup) joint ≡ f → feedOf s p ≡ turnAtOnce s p f
-  turned f q = fed-at-once s p (a .sound) (a .piece) (a .session) ∙ ap (turnAtOnce s p) q
+  turned : (f : First) → first (verdictOf setup) joint ≡ f → feedOf s p ≡ replyAtOnce s p f
+  turned f q = fed-at-once s (allowed .sound) p (allowed .piece) (allowed .session) ∙ ap (replyAtOnce s p) q
 
   -- ---- a datagram came back
 
   pub record Handed : Type 0 where
     pub place : ℕ
-    pub whole : IsWhole setup joint place
-    pub reply : feedOf s p ≡ turnOf s (place + lengthOf setup - s .count) (finds place (take (lengthOf setup) (drop place joint)) [])
+    pub size : ℕ
+    pub complete : IsComplete setup joint place size
+    pub reply : feedOf s p ≡ replyAfter s (place + size - s .count) (finds place (take size (drop place joint)) [])
 
   pub handed : feedOf s p .answer ≡ HandedOut → Handed
-  unfolding turnOf
+  unfolding replyAfter
   handed e = by (first (verdictOf setup) joint) refl
     where
       by : (f : First) → first (verdictOf setup) joint ≡ f → Handed
@@ -72,102 +79,108 @@ module _ (s : Session) (p : List ℕ) (room : ℕ) (a : Let s (length p) room) w
           let w : feedOf s p .answer ≡ Waiting = ap (λ (r : Reply). r .answer) (turned (ends n l) q) in
           absurd (let z : _≡_ {A = ℕ} 0 1 = cc in omega arith)
       by (finds n d r) q =
-          let w = found-whole setup (facts .accepted) joint n (ap placeOf q) in
-          let L = lengthOf setup in
+          let w = found-complete setup (facts .accepted) joint n (ap placeOf q) in
+          let L = length d in
           let k : length p - length (drop (n + L) joint) ≡ n + L - s .count =
-          omega (arith, length-drop (n + L) joint, length-append (heldBytes s) p, held-count, w .within, count-less s facts)
+          omega (arith, length-drop (n + L) joint, length-append (heldBytes s) p, held-count, w .within, complete-length w, count-less s facts)
           in
           record {
             place = n;
-            whole = w;
+            size = L;
+            complete = w;
             reply =
                 turned (finds n (take L (drop n joint)) (drop (n + L) joint)) (w .scan)
-                ∙ ap (λ (m : ℕ). turnOf s m (finds n (take L (drop n joint)) [])) k;
+                ∙ ap (λ (m : ℕ). replyAfter s m (finds n (take L (drop n joint)) [])) k;
           }
 
   module _ (H : Handed) where
     abbrev pub datagram : List ℕ
-    datagram = take (lengthOf setup) (drop (H .place) joint)
+    datagram = take (H .size) (drop (H .place) joint)
 
     abbrev taken : ℕ
-    taken = H .place + lengthOf setup - s .count
+    taken = H .place + H .size - s .count
 
     abbrev pub turn : Reply
-    turn = turnOf s taken (finds (H .place) datagram [])
+    turn = replyAfter s taken (finds (H .place) datagram [])
 
     abbrev line : List ℕ
     line = nextLine setup kept datagram
 
-    few : suc (s .datagrams .0) ≤ 2 ^ 30
-    few = few-of setup (facts .accepted) (s .datagrams .0) (s .passed + s .count) (omega (arith, facts .sum, facts .most))
+    few : suc (s .history .datagrams .0) ≤ 2 ^ 30
+    few = few-of setup (facts .accepted) (s .history .datagrams .0) (s .passed + s .count) (omega (arith, facts .sum, facts .most))
+
+    -- a datagram ends behind the bytes held
+    long : s .count < H .size
+    long = omega (arith, complete-length (H .complete), count-less s facts)
 
     taken-within : taken ≤ length p
-    taken-within = omega (arith, H .whole .within, length-append (heldBytes s) p, held-count)
+    taken-within = omega (arith, H .complete .within, length-append (heldBytes s) p, held-count)
 
-    rest : drop (H .place + lengthOf setup) joint ≡ drop taken p
+    rest : drop (H .place + H .size) joint ≡ drop taken p
     rest =
-        let e : H .place + lengthOf setup ≡ length (heldBytes s) + taken = omega (arith, held-count, count-less s facts) in
+        let e : H .place + H .size ≡ length (heldBytes s) + taken = omega (arith, held-count, long) in
         ap (λ (n : ℕ). drop n joint) e ∙ drop-append-add (heldBytes s) p taken
 
     scanned : foundIn s p ≡ passing (H .place) (handing datagram (scanAt setup p taken))
     scanned =
-        scan-whole setup (facts .accepted) joint (H .place) (H .whole)
+        scan-complete setup (facts .accepted) joint (H .place) (H .complete)
         ∙ ap (λ (v : List ℕ). passing (H .place) (handing datagram (scan (verdictOf setup) v))) rest
 
     short : length line ≤ 307
-    short = line-short setup kept datagram (facts .axes) (H .whole .good) few
+    short = line-short setup kept datagram (facts .axes) (H .complete .good) few
 
     -- its line is the next one, and nothing refuses it
-    pub first-line : lineOf setup (turn .session .datagrams .0) (turn .datagram) ≡ line
-    unfolding turnOf keptNext nextLine
-    first-line = rw (add-one (s .datagrams .0))
+    pub first-line : lineOf setup (turn .session .history .datagrams .0) (turn .datagram) ≡ line
+    unfolding replyAfter historyAfter historyNext nextLine
+    first-line = rw (add-one (s .history .datagrams .0))
 
     pub first-inside :
-        outside (turn .session .datagrams .0) (turn .datagram .gyro ∷ turn .datagram .accelerometer ∷ turn .datagram .inclinometer ∷ []) (turn .datagram .totals) ≡ false
-    unfolding turnOf keptNext tell datagramWith fieldsOf
+        outside (turn .session .history .datagrams .0) (turn .datagram .gyro ∷ turn .datagram .accelerometer ∷ turn .datagram .inclinometer ∷ []) (turn .datagram .totals) ≡ false
+    unfolding replyAfter historyAfter historyNext tell datagramWith fieldsOf
     first-inside =
-        ap (λ (n : ℕ). outside n (fieldsOf (setup .identifier) datagram .readings) (totalsOf (axesNext setup kept datagram))) (add-one (s .datagrams .0))
-        ∙ line-inside setup kept datagram (facts .axes) (H .whole .good) few
+        ap (λ (n : ℕ). outside n (fieldsOf (setup .identifier) datagram .readings) (totalsOf (nextHistory setup kept datagram .axes))) (add-one (s .history .datagrams .0))
+        ∙ line-inside setup kept datagram (facts .axes) (H .complete .good) few
 
-    pub first-short : length (lineOf setup (turn .session .datagrams .0) (turn .datagram)) ≤ 307
+    pub first-short : length (lineOf setup (turn .session .history .datagrams .0) (turn .datagram)) ≤ 307
     first-short = subst (λ (t : List ℕ). length t ≤ 307) (sym first-line) short
 
     -- the piece can be gone through behind it
     pub first-ready :
-        (used width : ℕ) → used ≤ 307 → 72000 ≤ width
+        (used width : ℕ) → used ≤ 307 → enough ≤ width
         → Ready (turn .session .setup) (startOf (turn .session) (turn .taken) used) (length p) width
-    unfolding turnOf keptNext
+    unfolding replyAfter historyAfter historyNext
     first-ready used width l w =
         record {
           accepted = facts .accepted;
           within = taken-within;
-          most = a .piece;
-          axes = right-next setup kept datagram (facts .axes) (H .whole .good);
+          most = allowed .piece;
+          axes = right-next setup kept datagram (facts .axes) (H .complete .good);
           few =
               omega (
                 arith,
                 facts .sum,
-                a .session,
-                mul-add (lengthOf setup) (s .datagrams .0) 1,
+                allowed .session,
+                mul-add (lengthOf setup) (s .history .datagrams .0) 1,
                 mul-one (lengthOf setup),
                 taken-within,
-                count-less s facts,
+                long,
+                complete-length (H .complete),
               );
-          passed = omega (arith, facts .sum, facts .most, H .whole .within, length-append (heldBytes s) p, held-count, count-less s facts, accepted-length setup (facts .accepted) .1, a .piece);
-          roomy = omega (arith, a .piece);
+          passed = omega (arith, facts .sum, facts .most, H .complete .within, length-append (heldBytes s) p, held-count, long, complete-length (H .complete), accepted-length setup (facts .accepted) .1, allowed .piece);
+          roomy = omega (arith, allowed .piece);
         }
 
-    pub first-fed : turn .session .fed + (length p - turn .taken) ≤ 2 ^ 34
-    unfolding turnOf
-    first-fed = omega (arith, a .session, taken-within)
+    pub first-fed : turn .session .fed + (length p - turn .taken) ≤ limitsOf setup .session
+    unfolding replyAfter
+    first-fed = omega (arith, allowed .session, taken-within)
 
     -- what is made of the rest is made of the whole
-    pub first-made :
+    pub first-answered :
         (b b′ b″ : List ℕ) (used : ℕ) (r : Batch) → used ≡ 0 + length line → b′ ≡ sets b 0 line → length b′ ≡ length b
-        → Made (turn .session) used (scanAt (turn .session .setup) p (turn .taken)) (length p - turn .taken) b′ b″ r
-        → Made s 0 (foundIn s p) (length p) b b″ r
-    unfolding turnOf batchBy carriedAfter
-    first-made b b′ b″ used r e f l M =
+        → Answered (turn .session) used (scanAt (turn .session .setup) p (turn .taken)) (length p - turn .taken) b′ b″ r
+        → Answered s 0 (foundIn s p) (length p) b b″ r
+    unfolding replyAfter batchBy carriedAfter
+    first-answered b b′ b″ used r e f l M =
         let g = scanAt setup p taken in
         let found = passing (H .place) (handing datagram g) in
         let x = steps (consumer setup) kept datagram in
@@ -181,20 +194,10 @@ module _ (s : Session) (p : List ℕ) (room : ℕ) (a : Let s (length p) room) w
         λ i.
         record {
           answer = Lines (n i);
-          session =
-              record {
-                setup = setup;
-                held = padded 64 (g .held);
-                count = length (g .held);
-                datagrams = datagrams (k .datagrams);
-                passed = passed i;
-                fed = fed i;
-                previous = k .previous;
-                axes = k .axes;
-              };
+          session = sessionWith setup k (passed i) (fed i) (g .held);
         }
         in
-        subst (λ (g : Scanned). Made s 0 g (length p) b b″ r) (sym scanned)
+        subst (λ (g : Scanned). Answered s 0 g (length p) b b″ r) (sym scanned)
         (record {
           batch = M .batch ∙ same;
           text =
@@ -208,38 +211,28 @@ module _ (s : Session) (p : List ℕ) (room : ℕ) (a : Let s (length p) room) w
 
   -- ---- the piece ended
 
-  pub waited-made : feedOf s p .answer ≡ Waiting → (b : List ℕ) → Made s 0 (foundIn s p) (length p) b b (record { answer = Lines 0; session = feedOf s p .session })
-  unfolding turnOf batchBy carriedAfter
-  waited-made e b = by (first (verdictOf setup) joint) refl
+  pub waited-answered : feedOf s p .answer ≡ Waiting → (b : List ℕ) → Answered s 0 (foundIn s p) (length p) b b (record { answer = Lines 0; session = feedOf s p .session })
+  unfolding replyAfter batchBy carriedAfter
+  waited-answered e b = by (first (verdictOf setup) joint) refl
     where
-      by : (f : First) → first (verdictOf setup) joint ≡ f → Made s 0 (foundIn s p) (length p) b b (record { answer = Lines 0; session = feedOf s p .session })
+      by : (f : First) → first (verdictOf setup) joint ≡ f → Answered s 0 (foundIn s p) (length p) b b (record { answer = Lines 0; session = feedOf s p .session })
       by (finds n d r) q =
           let w : feedOf s p .answer ≡ HandedOut = ap (λ (r : Reply). r .answer) (turned (finds n d r) q) in
           absurd (let z : _≡_ {A = ℕ} 0 1 = cc in omega arith)
       by (ends n l) q =
-          let w = found-open setup (facts .accepted) joint n (ap placeOf q) in
+          let w = found-undecided setup (facts .accepted) joint n (ap placeOf q) in
           let h = drop n joint in
           let none : textOf setup kept (passing n (holding h)) ≡ [] = text-none setup kept n h in
           let zero : 0 ≡ 0 + length (textOf setup kept (passing n (holding h))) = omega (arith, ap length none) in
           let passed : s .passed + n ≡ s .passed + (n + 0) = omega arith in
-          let same : record { answer = Lines 0; session = turnOf s (length p) (ends n h) .session } ≡ batchBy s 0 (passing n (holding h)) (length p) =
+          let same : record { answer = Lines 0; session = replyAfter s (length p) (ends n h) .session } ≡ batchBy s 0 (passing n (holding h)) (length p) =
           λ i.
           record {
             answer = Lines (zero i);
-            session =
-                record {
-                  setup = setup;
-                  held = padded 64 h;
-                  count = length h;
-                  datagrams = s .datagrams;
-                  passed = passed i;
-                  fed = s .fed + length p;
-                  previous = s .previous;
-                  axes = s .axes;
-                };
+            session = sessionWith setup (s .history) (passed i) (s .fed + length p) h;
           }
           in
-          subst (λ (g : Scanned). Made s 0 g (length p) b b (record { answer = Lines 0; session = feedOf s p .session }))
+          subst (λ (g : Scanned). Answered s 0 g (length p) b b (record { answer = Lines 0; session = feedOf s p .session }))
           (sym (scan-open setup (facts .accepted) joint n w))
           (record {
             batch = ap (λ (r : Reply). record { answer = Lines 0; session = r .session }) (turned (ends n h) (w .scan)) ∙ same;

@@ -1,7 +1,7 @@
 -- Laws of the lines of a piece.
 pub mod NextLines
 pub mod Placing
-pub mod Going
+pub mod LoopInvariant
 pub mod HeldFirst
 pub mod Batches
 pub mod OneByOne

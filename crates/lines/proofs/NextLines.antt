@@ -28,11 +28,13 @@ use Rattle.scan.specs.Carry.{steps, told}
 use Rattle.scan.proofs.CallsLaws.{and-true}
 use Rattle.search.specs.Search.{isDatagram}
 use Rattle.search.proofs.ByteLists.{datagram-parts}
+use Rattle.session.specs.History.{awaitsFirst, gapNext, historyNext}
 use Rattle.session.specs.Session.{axesRight}
+use Rattle.session.specs.declared.History.{History}
 use Rattle.session.proofs.AxisLaws.{axes-at, axes-step}
-use Rattle.receiver.specs.Feed.{Kept, axesAfter, awaitsFirst, keptNext, tell, datagramWith, consumer}
+use Rattle.receiver.specs.Feed.{historyAfter, tell, datagramWith, consumer}
 use Rattle.lines.specs.Lines.{linesAfter}
-use Rattle.lines.specs.Steps.{nextLine, textOf}
+use Rattle.lines.specs.PieceParts.{nextLine, textOf}
 
 -- ---- a gap is a number of at most 256, or none
 
@@ -75,63 +77,61 @@ totals-small u n a e h =
 
 -- ---- the line
 
-module _ (u : Setup) (x : Kept) (d : List ℕ) where
+module _ (u : Setup) (x : History) (d : List ℕ) where
   abbrev inside-it : Contents
   inside-it = fieldsOf (u .identifier) d
 
-  abbrev pub gapNext : Gap
-  gapNext = gapBetween u (awaitsFirst x) (x .previous) (inside-it .counter)
-
-  abbrev pub axesNext : Axes
-  axesNext = axesAfter u (x .axes) inside-it
+  abbrev pub nextHistory : History
+  nextHistory = historyNext u x (inside-it .readings) (inside-it .statuses) (inside-it .counter)
 
   -- the next line, by the fields of the datagram
   pub next-line :
       nextLine u x d
-      ≡ lineText u (suc (x .datagrams)) (inside-it .counter) (inside-it .latency) gapNext (inside-it .readings) (inside-it .statuses) (totalsOf axesNext)
-  unfolding nextLine tell datagramWith fieldsOf
+      ≡ lineText u (suc (x .datagrams .0)) (inside-it .counter) (inside-it .latency) (gapNext u x (inside-it .counter)) (inside-it .readings) (inside-it .statuses) (totalsOf (nextHistory .axes))
+  unfolding nextLine tell historyAfter historyNext datagramWith fieldsOf
   next-line = refl
 
-  module _ (right : axesRight u (x .datagrams) (x .axes) ≡ true) (good : isDatagram u d ≡ true) where
+  module _ (right : axesRight u (x .datagrams .0) (x .axes) ≡ true) (good : isDatagram u d ≡ true) where
     fits : Fitting inside-it
     fits = fields-fit (u .identifier) d (datagram-parts u d good .0)
 
-    axes-next : axesRight u (suc (x .datagrams)) axesNext ≡ true
-    axes-next = axes-step u (x .datagrams) (x .axes) (inside-it .readings) (inside-it .statuses) (fits .readings) right
+    axes-next : axesRight u (suc (x .datagrams .0)) (nextHistory .axes) ≡ true
+    unfolding historyNext
+    axes-next = axes-step u (x .datagrams .0) (x .axes) (inside-it .readings) (inside-it .statuses) (fits .readings) right
 
     -- the axes are right behind it
-    pub right-next : axesRight u (steps (consumer u) x d .datagrams) (steps (consumer u) x d .axes) ≡ true
-    unfolding keptNext
-    right-next = subst (λ (k : ℕ). axesRight u k axesNext ≡ true) (sym (add-one (x .datagrams))) axes-next
+    pub right-next : axesRight u (steps (consumer u) x d .datagrams .0) (steps (consumer u) x d .axes) ≡ true
+    unfolding historyAfter historyNext
+    right-next = subst (λ (k : ℕ). axesRight u k (nextHistory .axes) ≡ true) (sym (add-one (x .datagrams .0))) axes-next
 
-    module _ (few : suc (x .datagrams) ≤ 2 ^ 30) where
+    module _ (few : suc (x .datagrams .0) ≤ 2 ^ 30) where
       -- 13 doesn't refuse it
-      pub line-inside : outside (suc (x .datagrams)) (inside-it .readings) (totalsOf axesNext) ≡ false
+      pub line-inside : outside (suc (x .datagrams .0)) (inside-it .readings) (totalsOf (nextHistory .axes)) ≡ false
       unfolding outside
       line-inside =
           rw (
             readings-fit (inside-it .readings) (fits .readings),
-            totals-small u (suc (x .datagrams)) axesNext axes-next few,
-            eqb·suc-zero (x .datagrams),
+            totals-small u (suc (x .datagrams .0)) (nextHistory .axes) axes-next few,
+            eqb·suc-zero (x .datagrams .0),
           )
 
       -- and it is short
       pub line-short : length (nextLine u x d) ≤ 307
       line-short =
           subst (λ (t : List ℕ). length t ≤ 307) (sym next-line)
-          (longest u (suc (x .datagrams)) (inside-it .counter) (inside-it .latency) gapNext (inside-it .readings) (inside-it .statuses) (totalsOf axesNext)
+          (longest u (suc (x .datagrams .0)) (inside-it .counter) (inside-it .latency) (gapNext u x (inside-it .counter)) (inside-it .readings) (inside-it .statuses) (totalsOf (nextHistory .axes))
           (omega arith) (fits .counter) (fits .latency) (gap-fits (knownRate (u .rate)) (awaitsFirst x) (x .previous) (inside-it .counter)) (fits .statuses)
-          (readings-fit (inside-it .readings) (fits .readings)) (totals-small u (suc (x .datagrams)) axesNext axes-next few))
+          (readings-fit (inside-it .readings) (fits .readings)) (totals-small u (suc (x .datagrams .0)) (nextHistory .axes) axes-next few))
 
 -- ---- the lines of what a scan gives
 
 -- none where it finds no datagram
-pub text-none : (u : Setup) (k : Kept) (n : ℕ) (h : List ℕ) → textOf u k (passing n (holding h)) ≡ []
+pub text-none : (u : Setup) (k : History) (n : ℕ) (h : List ℕ) → textOf u k (passing n (holding h)) ≡ []
 unfolding textOf told linesAfter
 text-none u k n h = refl
 
 -- the line of its first, and those of the others
-pub text-more : (u : Setup) (k : Kept) (n : ℕ) (d : List ℕ) (g : Scanned) → textOf u k (passing n (handing d g)) ≡ nextLine u k d ++ textOf u (steps (consumer u) k d) g
-unfolding textOf nextLine told linesAfter keptNext
+pub text-more : (u : Setup) (k : History) (n : ℕ) (d : List ℕ) (g : Scanned) → textOf u k (passing n (handing d g)) ≡ nextLine u k d ++ textOf u (steps (consumer u) k d) g
+unfolding textOf nextLine told linesAfter historyAfter historyNext
 text-more u k n d g =
-    ap (λ (m : ℕ). nextLine u k d ++ linesAfter u m (told (consumer u) (steps (consumer u) k d) (g .datagrams))) (sym (add-one (k .datagrams)))
+    ap (λ (m : ℕ). nextLine u k d ++ linesAfter u m (told (consumer u) (steps (consumer u) k d) (g .datagrams))) (sym (add-one (k .datagrams .0)))

@@ -1,3 +1,3 @@
 -- A whole piece at once.
 pub mod Lines
-pub mod Steps
+pub mod PieceParts

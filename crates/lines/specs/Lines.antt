@@ -1,18 +1,20 @@
 -- What feeding a piece to its end and writing a line for each datagram gives, at once.
 use Prim.Native.Nat.{ℕ, suc, _+_}
-use mathlib.Core.Bool.{cond}
 use mathlib.Core.List.{List, [], _∷_, _++_}
-use lib.Dec.{leb}
+use lib.Dec.{ltb}
 use lib.ListN.{length, drop}
+use Rattle.setup.specs.Setup.{Rule, rule, firstOf}
 use Rattle.setup.specs.declared.Setup.{Setup}
+use Rattle.setup.specs.declared.Ruling as ruling
+use Rattle.setup.specs.declared.Ruling.{Ruling}
 use Rattle.text.specs.TextLine.{lineText}
 use Rattle.scan.specs.Scan.{Scanned, scan}
 use Rattle.scan.specs.Stream.{joined}
 use Rattle.scan.specs.Carry.{told, carriedAfter}
 use Rattle.search.specs.Search.{verdictOf}
-use Rattle.session.specs.Session.{limits, heldBytes, isSound}
+use Rattle.session.specs.Session.{heldBytes, pieceRules}
 use Rattle.session.specs.declared.Session.{Session}
-use Rattle.receiver.specs.Feed.{consumer, SessionMeaning, meaning, sessionOf}
+use Rattle.receiver.specs.Feed.{consumer, SessionState, stateOf, sessionOf}
 use Rattle.receiver.specs.declared.Datagram.{Datagram}
 use Rattle.lines.specs.declared.Received.{Received}
 use Rattle.lines.specs.declared.Received.the-variants.{Lines, Refused}
@@ -35,23 +37,23 @@ foundIn s p = scan (verdictOf (s .setup)) (heldBytes s ++ p)
 
 -- what comes back with its datagrams, and their lines
 abbrev pub answersIn : Session → List ℕ → List Datagram
-answersIn s p = told (consumer (s .setup)) (meaning s .carried) (foundIn s p .datagrams)
+answersIn s p = told (consumer (s .setup)) (stateOf s .carried) (foundIn s p .datagrams)
 
 unfoldable pub linesIn : Session → List ℕ → List ℕ
-linesIn s p = linesAfter (s .setup) (s .datagrams .0) (answersIn s p)
+linesIn s p = linesAfter (s .setup) (s .history .datagrams .0) (answersIn s p)
 
 -- what the session stands for behind the piece
-abbrev pub behind : Session → List ℕ → SessionMeaning
+abbrev pub behind : Session → List ℕ → SessionState
 behind s p =
     record {
       scan =
           record {
             held = foundIn s p .held;
-            handed = meaning s .scan .handed + length (joined (foundIn s p .datagrams));
+            handed = stateOf s .scan .handed + length (joined (foundIn s p .datagrams));
             passed = s .passed + foundIn s p .passed;
             fed = s .fed + length p;
           };
-      carried = carriedAfter (consumer (s .setup)) (meaning s .carried) (foundIn s p .datagrams);
+      carried = carriedAfter (consumer (s .setup)) (stateOf s .carried) (foundIn s p .datagrams);
     }
 
 -- a buffer of so many bytes is long enough for the lines of any piece
@@ -62,15 +64,15 @@ enough = 72000
 abbrev pub refusing : Session → ℕ → Batch
 refusing s n = record { answer = Refused n; session = s }
 
+abbrev pub batchWith : Ruling → Session → List ℕ → Batch
+batchWith ruling.the-variants.Accepted s p = record { answer = Lines (length (linesIn s p)); session = sessionOf (s .setup) (behind s p) }
+batchWith (ruling.the-variants.Refused n) s p = refusing s n
+
+abbrev pub batchRules : Session → ℕ → ℕ → List Rule
+batchRules s n room = pieceRules s n ++ rule 14 (ltb room enough) ∷ []
+
 unfoldable pub batchOf : Session → List ℕ → ℕ → Batch
-batchOf s p room =
-    cond (isSound s)
-    (cond (leb (length p) (limits .piece))
-    (cond (leb (s .fed + length p) (limits .session))
-    (cond (leb enough room) (record { answer = Lines (length (linesIn s p)); session = sessionOf (s .setup) (behind s p) }) (refusing s 14))
-    (refusing s 12))
-    (refusing s 11))
-    (refusing s 10)
+batchOf s p room = batchWith (firstOf (batchRules s (length p) room)) s p
 
 -- the buffer at exit: the lines from the front and every later byte as it was, or all as it was
 abbrev pub bufferBy : Received → List ℕ → List ℕ → List ℕ

@@ -2,26 +2,30 @@
 ghost use mathlib.Core.Path.{_≡_};
 ghost use mathlib.Core.Bool.{true, false};
 ghost use mathlib.Core.List.{[], _∷_};
-ghost use Prim.Native.Nat.{_+_, _-_, _^_, _≤_, _<_};
+ghost use Prim.Native.Nat.{_+_, _-_, _≤_};
 ghost use lib.ListN.{length};
 ghost use lib.Seq.{sets};
 ghost use Rattle.setup.specs.Setup.{rulingOn};
 ghost use Rattle.setup.specs.declared.Ruling.the-variants.{Accepted};
 ghost use Rattle.text.specs.TextLine.{lineText, outside};
 ghost use Rattle.text.specs.Putting.{Put};
-ghost use Rattle.search.specs.Search.{isDatagram};
+ghost use Rattle.search.specs.Search.{isDatagram, limitsOf};
+ghost use Rattle.session.specs.History.{greatestCount};
 ghost use Rattle.lines.specs.Lines.{lineOf, foundIn, refusing, batchOf, batchBuffer};
-ghost use Rattle.lines.specs.Steps.{keptIn, nextLine, startOf, nextOf, stopped, scanAt, Ready, Through, Made, Let};
-use motion::Axes;
-use motion::Datagrams;
+ghost use Rattle.lines.specs.PieceParts.{nextLine, startOf, nextOf, stopped, scanAt, Ready, Finished, Answered, Permitted};
 use motion::Gap;
 use motion::Totals;
 use receiver::Answer;
 use receiver::Datagram;
 use search::Place;
+use session::History;
 use session::Session;
+use setup::Ruling;
 use setup::Setup;
 use text::Written;
+
+// A buffer of so many bytes is long enough for the lines of any piece.
+const ENOUGH: usize = 72000;
 
 // What came of a piece: so many bytes of lines stand at the front of the buffer, or a number refused it.
 pub enum Received {
@@ -37,11 +41,9 @@ pub struct Batch {
 
 // What a datagram of the piece moves on.
 struct Progress {
-    // as in a session
-    datagrams: u64,
+    history: History,
+    // how many bytes were passed over
     passed: u64,
-    previous: u8,
-    axes: Axes,
     // the place in the piece, and how many bytes of the buffer are written
     at: usize,
     used: usize,
@@ -99,22 +101,24 @@ fn one_line(
     buffer: &mut [u8],
 ) -> Progress
     requires { ⌜ Ready setup progress (progress .at + (skipped + length (now d))) (length (now buffer)) ⌝ ∗ ⌜ isDatagram setup (now d) ≡ true ⌝ }
-    ensures { λ r. ⌜ r ≡ nextOf setup progress skipped (now (d .entry)) ⌝ ∗ ⌜ now (buffer .exit) ≡ sets (now (buffer .entry)) (progress .used) (nextLine setup (keptIn progress) (now (d .entry))) ⌝ }
+    ensures { λ r. ⌜ r ≡ nextOf setup progress skipped (now (d .entry)) ⌝ ∗ ⌜ now (buffer .exit) ≡ sets (now (buffer .entry)) (progress .used) (nextLine setup (progress .history) (now (d .entry))) ⌝ }
 {
     let identifier = setup.identifier;
-    let handed = progress.datagrams;
+    let before = progress.history;
     let readings = wire::readings(identifier, d);
     let statuses = wire::statuses(identifier, d);
     let counter = wire::counter(identifier, d);
     let latency = wire::latency(identifier, d);
-    let axes = motion::step(setup, progress.axes, readings, statuses);
-    let gap = motion::gap_between(setup, handed == 0, progress.previous, counter);
+    let gap = session::gap_before(setup, before, counter);
+    let history = session::advance(setup, before, readings, statuses, counter);
+    let ordinal = history.datagrams.0;
+    let axes = history.axes;
     let totals = motion::totals_of(axes);
     let used = put_behind(
         buffer,
         progress.used,
         setup,
-        handed + 1,
+        ordinal,
         counter,
         latency,
         gap,
@@ -123,10 +127,8 @@ fn one_line(
         totals,
     );
     Progress {
-        datagrams: handed + 1,
+        history: history,
         passed: progress.passed + (skipped as u64),
-        previous: counter,
-        axes: axes,
         at: progress.at + (skipped + d.len()),
         used: used,
     }
@@ -134,7 +136,7 @@ fn one_line(
 
 // So many bytes are passed over, and no datagram follows.
 fn stop(progress: Progress, skipped: usize) -> Progress
-    requires { ⌜ (progress .passed + skipped < 2 ^ 64) × (progress .at + skipped < 2 ^ 64) ⌝ }
+    requires { ⌜ (progress .passed + skipped ≤ greatestCount) × (progress .at + skipped ≤ greatestCount) ⌝ }
     ensures { λ r. ⌜ r ≡ stopped progress skipped ⌝ }
 {
     let mut after = progress;
@@ -146,20 +148,19 @@ fn stop(progress: Progress, skipped: usize) -> Progress
 // The lines of the piece from a place on.
 fn lines_from(setup: Setup, start: Progress, piece: &[u8], buffer: &mut [u8]) -> Progress
     requires { ⌜ Ready setup start (length (now piece)) (length (now buffer)) ⌝ }
-    ensures { λ r. ⌜ Through setup start (now (piece .entry)) (now (buffer .entry)) (now (buffer .exit)) r ⌝ }
+    ensures { λ r. ⌜ Finished setup start (now (piece .entry)) (now (buffer .entry)) (now (buffer .exit)) r ⌝ }
 {
-    let size = setup::length_of(setup);
     let len = piece.len();
     let mut going = start;
     while going.at < len {
         let at = going.at;
         let rest = &piece[at..];
         match search::find(setup, rest) {
-            Place::Whole(skipped) => {
+            Place::Complete(skipped, size) => {
                 let end = skipped + size;
                 going = one_line(setup, going, skipped, &rest[skipped..end], buffer);
             }
-            Place::Open(skipped) => {
+            Place::Undecided(skipped) => {
                 return stop(going, skipped);
             }
         }
@@ -169,34 +170,27 @@ fn lines_from(setup: Setup, start: Progress, piece: &[u8], buffer: &mut [u8]) ->
 
 // The same for a session that holds nothing, with the session behind the piece.
 fn lines_of(session: Session, piece: &[u8], at: usize, used: usize, buffer: &mut [u8]) -> Batch
-    requires { ⌜ Ready (session .setup) (startOf session at used) (length (now piece)) (length (now buffer)) ⌝ ∗ ⌜ session .fed + (length (now piece) - at) ≤ 2 ^ 34 ⌝ }
-    ensures { λ r. ⌜ Made session used (scanAt (session .setup) (now (piece .entry)) at) (length (now (piece .entry)) - at) (now (buffer .entry)) (now (buffer .exit)) r ⌝ }
+    requires { ⌜ Ready (session .setup) (startOf session at used) (length (now piece)) (length (now buffer)) ⌝ ∗ ⌜ session .fed + (length (now piece) - at) ≤ limitsOf (session .setup) .session ⌝ }
+    ensures { λ r. ⌜ Answered session used (scanAt (session .setup) (now (piece .entry)) at) (length (now (piece .entry)) - at) (now (buffer .entry)) (now (buffer .exit)) r ⌝ }
 {
     let setup = session.setup;
-    let len = piece.len();
-    let axes = session.axes;
+    let history = session.history;
     let start = Progress {
-        datagrams: session.datagrams.0,
+        history: history,
         passed: session.passed,
-        previous: session.previous,
-        axes: axes,
         at: at,
         used: used,
     };
     let end = lines_from(setup, start, piece, buffer);
     let place = end.at;
-    let last = end.axes;
-    let held = session::held_array(&piece[place..]);
-    let after = Session {
-        setup: setup,
-        held: held,
-        count: len - place,
-        datagrams: Datagrams(end.datagrams),
-        passed: end.passed,
-        fed: session.fed + ((len - at) as u64),
-        previous: end.previous,
-        axes: last,
-    };
+    let last = end.history;
+    let after = session::session_with(
+        setup,
+        last,
+        end.passed,
+        session.fed + ((piece.len() - at) as u64),
+        &piece[place..],
+    );
     Batch {
         answer: Received::Lines(end.used),
         session: after,
@@ -231,8 +225,8 @@ fn first_line(setup: Setup, ordinal: u64, datagram: Datagram, buffer: &mut [u8])
 
 // The lines of a piece behind bytes that are held.
 fn lines_behind(session: Session, piece: &[u8], buffer: &mut [u8]) -> Batch
-    requires { ⌜ Let session (length (now piece)) (length (now buffer)) ⌝ }
-    ensures { λ r. ⌜ Made session 0 (foundIn session (now (piece .entry))) (length (now (piece .entry))) (now (buffer .entry)) (now (buffer .exit)) r ⌝ }
+    requires { ⌜ Permitted session (length (now piece)) (length (now buffer)) ⌝ }
+    ensures { λ r. ⌜ Answered session 0 (foundIn session (now (piece .entry))) (length (now (piece .entry))) (now (buffer .entry)) (now (buffer .exit)) r ⌝ }
 {
     let setup = session.setup;
     let reply = receiver::feed(session, piece);
@@ -242,7 +236,8 @@ fn lines_behind(session: Session, piece: &[u8], buffer: &mut [u8]) -> Batch
     match answer {
         Answer::Datagram => {
             let datagram = reply.datagram;
-            let used = first_line(setup, next.datagrams.0, datagram, buffer);
+            let history = next.history;
+            let used = first_line(setup, history.datagrams.0, datagram, buffer);
             lines_of(next, piece, taken, used, buffer)
         }
         Answer::Waiting => Batch {
@@ -253,27 +248,28 @@ fn lines_behind(session: Session, piece: &[u8], buffer: &mut [u8]) -> Batch
     }
 }
 
-// A piece fed to its end, and the line of each datagram that it completes; or 10, 11, 12 or 14 refuses it and writes nothing.
-pub fn receive_lines(session: Session, piece: &[u8], buffer: &mut [u8]) -> Batch
-    ensures { λ r. ⌜ r ≡ batchOf session (now (piece .entry)) (length (now (buffer .entry))) ⌝ ∗ ⌜ now (buffer .exit) ≡ batchBuffer session (now (piece .entry)) (now (buffer .entry)) ⌝ }
+// The lines of a piece that nothing refuses.
+fn all_lines(session: Session, piece: &[u8], buffer: &mut [u8]) -> Batch
+    requires { ⌜ Permitted session (length (now piece)) (length (now buffer)) ⌝ }
+    ensures { λ r. ⌜ Answered session 0 (foundIn session (now (piece .entry))) (length (now (piece .entry))) (now (buffer .entry)) (now (buffer .exit)) r ⌝ }
 {
     let count = session.count;
-    let fed = session.fed;
-    let len = piece.len();
-    if !session::is_sound(session) {
-        return refuse(session, 10);
-    }
-    if 4096 < len {
-        return refuse(session, 11);
-    }
-    if 17179869184 < fed + (len as u64) {
-        return refuse(session, 12);
-    }
-    if buffer.len() < 72000 {
-        return refuse(session, 14);
-    }
     if count == 0 {
         return lines_of(session, piece, 0, 0, buffer);
     }
     lines_behind(session, piece, buffer)
+}
+
+// A piece fed to its end, and the line of each datagram that it completes; or 10, 11, 12 or 14 refuses it and writes nothing.
+pub fn receive_lines(session: Session, piece: &[u8], buffer: &mut [u8]) -> Batch
+    ensures { λ r. ⌜ r ≡ batchOf session (now (piece .entry)) (length (now (buffer .entry))) ⌝ ∗ ⌜ now (buffer .exit) ≡ batchBuffer session (now (piece .entry)) (now (buffer .entry)) ⌝ }
+{
+    let ruling = session::rule_on_piece(session, piece.len());
+    if let Ruling::Refused(number) = ruling {
+        return refuse(session, number);
+    }
+    if buffer.len() < ENOUGH {
+        return refuse(session, 14);
+    }
+    all_lines(session, piece, buffer)
 }

@@ -1,11 +1,12 @@
 -- Laws of feeding, and the proofs of the demands.
 pub mod Joining
-pub mod Meanings
-pub mod Turns
-pub mod Keeping
+pub mod Refinement
+pub mod CallParts
+pub mod HistoryInvariant
 pub mod Agreement
 pub mod EachCall
-pub mod KeptHistory
-pub mod AxisHistory
+pub mod OneLength
+pub mod ContainedAt
+pub mod AxisAt
 pub mod Demands
 pub mod WorkedExample

@@ -1,5 +1,5 @@
 -- 01, The scan; Status, doubles, gaps; Totals; What is turned down, 10 to 12: what a call of feed answers.
-use Prim.Native.Nat.{ℕ, _+_, _*_}
+use Prim.Native.Nat.{ℕ, _*_}
 use mathlib.Core.Bool.{Bool, _&&_}
 use mathlib.Core.List.{List, [], _∷_, map}
 use lib.Dec.{eqb}
@@ -7,13 +7,16 @@ use lib.IntN.{ℤ, pos}
 use lib.ListN.{length, getD}
 use Rattle.setup.specs.Setup.{lengthOf}
 use Rattle.setup.specs.declared.Setup.{Setup}
+use Rattle.setup.specs.declared.Ruling as ruling
+use Rattle.setup.specs.declared.Ruling.{Ruling}
 use Rattle.wire.specs.Fields.{Contents, fieldsOf, besidesReadings}
 use Rattle.wire.specs.declared.Fields.{Fields}
 use Rattle.motion.specs.Status.{flagged}
 use Rattle.motion.specs.Doubles.{plusZero, groupValues}
 use Rattle.motion.specs.Gaps.{datagrams, gapBetween}
-use Rattle.motion.specs.Totals.{stepped, totalsOf, totalDoubles}
+use Rattle.motion.specs.Totals.{totalsOf, totalDoubles}
 use Rattle.motion.specs.declared.Axes.{Axes}
+use Rattle.motion.specs.declared.Gap.{Gap}
 use Rattle.motion.specs.declared.Gap.the-variants.{Missed}
 use Rattle.motion.specs.declared.Values.{Values}
 use Rattle.motion.specs.declared.Values.the-variants.{Instantaneous}
@@ -23,7 +26,9 @@ use Rattle.scan.specs.Calls.{Fed, Report, Run}
 use Rattle.scan.specs.Carry as carry
 use Rattle.scan.specs.Carry.{Consumer, carrying}
 use Rattle.search.specs.Search.{verdictOf}
-use Rattle.session.specs.Session.{noAxes, limits, heldBytes, axesRight, isSound, padded}
+use Rattle.session.specs.History.{noAxes, noHistory, awaitsFirst, historyNext}
+use Rattle.session.specs.Session.{sessionWith, heldBytes, axesRight, pieceRuling}
+use Rattle.session.specs.declared.History.{History}
 use Rattle.session.specs.declared.Session.{Session}
 use Rattle.receiver.specs.declared.Datagram.{Datagram}
 use Rattle.receiver.specs.declared.Answer.{Answer}
@@ -32,19 +37,9 @@ use Rattle.receiver.specs.declared.Reply.{Reply}
 
 -- ---- what a datagram does to a session, and what comes back with it
 
--- what a session keeps beside the bytes and counts of the scan
-pub record Kept : Type 0 where
-  pub datagrams : ℕ
-  pub previous : ℕ
-  pub axes : Axes
-
--- the axes after a datagram with these contents
-abbrev pub axesAfter : Setup → Axes → Contents → Axes
-axesAfter u a c = stepped u a (c .readings) (c .statuses)
-
--- a datagram as it comes back, of its contents; first: whether it counts as a first one; previous: the counter before; a: the axes after it
-unfoldable pub datagramWith : Setup → Bool → ℕ → Contents → Axes → Datagram
-datagramWith u first previous c a =
+-- a datagram as it comes back, of its contents; gap: what lies before it; a: the axes after it
+unfoldable pub datagramWith : Setup → Gap → Contents → Axes → Datagram
+datagramWith u gap c a =
     record {
       gyro = getD (c .readings) 0 [];
       accelerometer = getD (c .readings) 1 [];
@@ -52,36 +47,30 @@ datagramWith u first previous c a =
       fields = besidesReadings c;
       flagged = map flagged (c .statuses);
       values = groupValues u (c .readings);
-      gap = gapBetween u first previous (c .counter);
+      gap = gap;
       totals = totalsOf a;
       doubles = totalDoubles u a;
     }
 
--- a fresh session keeps nothing
-abbrev pub nothingKept : Kept
-nothingKept = record { datagrams = 0; previous = 0; axes = noAxes }
-
--- the first datagram of a session is the one before which none was handed out
-abbrev pub awaitsFirst : Kept → Bool
-awaitsFirst x = eqb (x .datagrams) 0
-
 module _ (u : Setup) where
-  unfoldable pub keptNext : Bool → Kept → List ℕ → Kept
-  keptNext first x d =
+  -- the history behind a datagram
+  unfoldable pub historyAfter : Bool → History → List ℕ → History
+  historyAfter first h d =
       let c : Contents = fieldsOf (u .identifier) d in
-      record { datagrams = x .datagrams + 1; previous = c .counter; axes = axesAfter u (x .axes) c }
+      historyNext u h (c .readings) (c .statuses) (c .counter)
 
-  unfoldable pub tell : Bool → Kept → List ℕ → Datagram
-  tell first x d =
+  -- what comes back with it; first: whether it counts as a first one
+  unfoldable pub tell : Bool → History → List ℕ → Datagram
+  tell first h d =
       let c : Contents = fieldsOf (u .identifier) d in
-      datagramWith u first (x .previous) c (axesAfter u (x .axes) c)
+      datagramWith u (gapBetween u first (h .previous) (c .counter)) c (historyAfter first h d .axes)
 
-  -- what refusal 10 asks of it, n bytes having been handed out
-  unfoldable pub keptRight : ℕ → Kept → Bool
-  keptRight n x = eqb n (lengthOf u * x .datagrams) && axesRight u (x .datagrams) (x .axes)
+  -- what refusal 10 asks of the history, n bytes having been handed out
+  unfoldable pub historyRight : ℕ → History → Bool
+  historyRight n h = eqb n (lengthOf u * h .datagrams .0) && axesRight u (h .datagrams .0) (h .axes)
 
-  abbrev pub consumer : Consumer Kept Datagram
-  consumer = record { start = nothingKept; awaitsFirst = awaitsFirst; step = keptNext; tell = tell; fit = keptRight }
+  abbrev pub consumer : Consumer History Datagram
+  consumer = record { start = noHistory; awaitsFirst = awaitsFirst; step = historyAfter; tell = tell; admits = historyRight }
 
 -- ---- where no datagram is handed out: zeros and unit 0
 
@@ -133,49 +122,46 @@ noDatagram =
       doubles = noDoubles;
     }
 
--- ---- a session and what it stands for: the scan's bytes and counts, and what is kept beside them
+-- ---- a session as the scan's state: the bytes and counts of the scan, and the history beside them
 
-abbrev pub SessionMeaning : Type 0
-SessionMeaning = carry.Session Kept
+abbrev pub SessionState : Type 0
+SessionState = carry.Session History
 
-abbrev pub meaning : Session → SessionMeaning
-meaning s =
+abbrev pub stateOf : Session → SessionState
+stateOf s =
     record {
       scan =
-          record { held = heldBytes s; handed = lengthOf (s .setup) * s .datagrams .0; passed = s .passed; fed = s .fed };
-      carried = record { datagrams = s .datagrams .0; previous = s .previous; axes = s .axes };
+          record { held = heldBytes s; handed = lengthOf (s .setup) * s .history .datagrams .0; passed = s .passed; fed = s .fed };
+      carried = s .history;
     }
 
 -- and back
-abbrev pub sessionOf : Setup → SessionMeaning → Session
-sessionOf u t =
-    record {
-      setup = u;
-      held = padded 64 (t .scan .held);
-      count = length (t .scan .held);
-      datagrams = datagrams (t .carried .datagrams);
-      passed = t .scan .passed;
-      fed = t .scan .fed;
-      previous = t .carried .previous;
-      axes = t .carried .axes;
-    }
+abbrev pub sessionOf : Setup → SessionState → Session
+sessionOf u t = sessionWith u (t .carried) (t .scan .passed) (t .scan .fed) (t .scan .held)
 
 -- ---- a call
 
 -- what is told: a refusal takes no bytes and returns the session as given
-abbrev pub replyBy : Session → calls.Answer Datagram → ℕ → SessionMeaning → Reply
+abbrev pub replyBy : Session → calls.Answer Datagram → ℕ → SessionState → Reply
 replyBy s (calls.Answer.datagram o) k t = record { answer = HandedOut; taken = k; session = sessionOf (s .setup) t; datagram = o }
 replyBy s calls.Answer.waiting k t = record { answer = Waiting; taken = k; session = sessionOf (s .setup) t; datagram = noDatagram }
 replyBy s (calls.Answer.refused n) k t = record { answer = Refused n; taken = 0; session = s; datagram = noDatagram }
 
-abbrev pub replyOf : Session → Fed SessionMeaning Datagram → Reply
+abbrev pub replyOf : Session → Fed SessionState Datagram → Reply
 replyOf s c = replyBy s (c .answer) (c .taken) (c .next)
 
--- A call of feed: refused by 10, 11 or 12, or made on the scan's bytes and counts, with what is kept beside them
+-- a refused call
+abbrev pub refusal : Session → ℕ → Reply
+refusal s n = record { answer = Refused n; taken = 0; session = s; datagram = noDatagram }
+
+-- A call of feed: refused by 10, 11 or 12, or made on the scan's bytes and counts, with the history beside them
+abbrev pub feedBy : Ruling → Session → List ℕ → Reply
+feedBy (ruling.the-variants.Refused n) s p = refusal s n
+feedBy ruling.the-variants.Accepted s p =
+    replyOf s (carrying (consumer (s .setup)) (stateOf s) (calls.call (verdictOf (s .setup)) (stateOf s .scan) p))
+
 unfoldable pub feedOf : Session → List ℕ → Reply
-feedOf s p =
-    let u : Setup = s .setup in
-    replyOf s (carrying (consumer u) (meaning s) (calls.feed (verdictOf u) limits (isSound s) (meaning s .scan) p))
+feedOf s p = feedBy (pieceRuling s (length p)) s p
 
 -- ---- calls one after the other
 

@@ -4,15 +4,15 @@ ghost use mathlib.Core.List.{[], _++_};
 ghost use Prim.Native.Nat.{_+_, _≤_, _<_, min};
 ghost use lib.ListN.{length, drop};
 ghost use lib.Seq.{sets};
-ghost use Rattle.setup.specs.Setup.{rulingOn, lengthOf};
+ghost use Rattle.setup.specs.Setup.{rulingOn};
 ghost use Rattle.setup.specs.declared.Ruling.the-variants.{Accepted};
 ghost use Rattle.motion.specs.Totals.{totalsOf};
 ghost use Rattle.scan.specs.Scan.{first, later, ends, finds};
-ghost use Rattle.scan.specs.Calls.Answer.{refused};
-ghost use Rattle.search.specs.Search.{verdictOf};
-ghost use Rattle.session.specs.Session.{noAxes, padded, heldBytes};
-ghost use Rattle.receiver.specs.Feed.{datagramWith, noFields, noValues, noDoubles, noDatagram, meaning, replyBy, feedOf};
-ghost use Rattle.receiver.specs.Turns.{contentsOf, turnOf, turnAtOnce, Room};
+ghost use Rattle.search.specs.Search.{rulesOf, verdictOf};
+ghost use Rattle.session.specs.History.{noAxes};
+ghost use Rattle.session.specs.Session.{padded, sessionWith, heldBytes, pieceRuling};
+ghost use Rattle.receiver.specs.Feed.{datagramWith, noFields, noValues, noDoubles, noDatagram, refusal, feedOf};
+ghost use Rattle.receiver.specs.CallParts.{contentsOf, replyAfter, replyAtOnce, Room};
 use motion::Axes;
 use motion::Datagrams;
 use motion::Gap;
@@ -23,7 +23,9 @@ use motion::TotalDoubles;
 use motion::Totals;
 use motion::Values;
 use search::Place;
+use session::History;
 use session::Session;
+use setup::Ruling;
 use setup::Setup;
 use wire::Fields;
 
@@ -58,16 +60,15 @@ pub struct Reply {
     pub datagram: Datagram,
 }
 
-// A datagram as it comes back, of its readings and its other fields; `first`: whether it counts as a first one, `axes`: those after it.
+// A datagram as it comes back, of its readings and its other fields; `gap`: what lies before it, `axes`: those after it.
 fn datagram_of(
     setup: Setup,
-    first: bool,
-    previous: u8,
+    gap: Gap,
     readings: [[i32; 3]; 3],
     fields: Fields,
     axes: Axes,
 ) -> Datagram
-    ensures { λ r. ⌜ r ≡ datagramWith setup first previous (contentsOf readings fields) axes ⌝ }
+    ensures { λ r. ⌜ r ≡ datagramWith setup gap (contentsOf readings fields) axes ⌝ }
 {
     let statuses = fields.statuses;
     let flagged = [
@@ -76,7 +77,6 @@ fn datagram_of(
         motion::flagged_channels(statuses[2]),
     ];
     let values = motion::group_values(setup, readings);
-    let gap = motion::gap_between(setup, first, previous, fields.counter);
     let totals = motion::totals_of(axes);
     let doubles = motion::total_doubles(setup, axes);
     let gyro = readings[0];
@@ -214,30 +214,44 @@ fn least(a: usize, b: usize) -> usize
     if a < b { a } else { b }
 }
 
-// The call ends with a datagram d, so many bytes having been passed over before it: it moves the totals on and comes back.
+// The session behind so many bytes passed over and taken, with the undecided ones held.
+fn session_behind(
+    session: Session,
+    history: History,
+    passed: usize,
+    taken: usize,
+    undecided: &[u8],
+) -> Session
+    requires { ⌜ Room session passed × Room session taken × (length (now undecided) ≤ 64) ⌝ }
+    ensures { λ r. ⌜ r ≡ sessionWith (session .setup) history (session .passed + passed) (session .fed + taken) (now (undecided .entry)) ⌝ }
+{
+    let setup = session.setup;
+    session::session_with(
+        setup,
+        history,
+        session.passed + (passed as u64),
+        session.fed + (taken as u64),
+        undecided,
+    )
+}
+
+// The call ends with a datagram d, so many bytes having been passed over before it: it moves the history on and comes back.
 fn hand_out(session: Session, passed: usize, taken: usize, d: &[u8]) -> Reply
     requires { ⌜ Room session passed × Room session taken ⌝ }
-    ensures { λ r. ⌜ r ≡ turnOf session taken (finds passed (now (d .entry)) []) ⌝ }
+    ensures { λ r. ⌜ r ≡ replyAfter session taken (finds passed (now (d .entry)) []) ⌝ }
 {
     let setup = session.setup;
     let identifier = setup.identifier;
-    let handed = session.datagrams.0;
+    let before = session.history;
     let readings = wire::readings(identifier, d);
     let fields = wire::fields_of(identifier, d);
     let statuses = fields.statuses;
-    let before = session.axes;
-    let axes = motion::step(setup, before, readings, statuses);
-    let datagram = datagram_of(setup, handed == 0, session.previous, readings, fields, axes);
-    let after = Session {
-        setup: setup,
-        held: [0u8; 64],
-        count: 0,
-        datagrams: Datagrams(handed + 1),
-        passed: session.passed + (passed as u64),
-        fed: session.fed + (taken as u64),
-        previous: fields.counter,
-        axes: axes,
-    };
+    let counter = fields.counter;
+    let gap = session::gap_before(setup, before, counter);
+    let history = session::advance(setup, before, readings, statuses, counter);
+    let axes = history.axes;
+    let datagram = datagram_of(setup, gap, readings, fields, axes);
+    let after = session_behind(session, history, passed, taken, &d[..0]);
     Reply {
         answer: Answer::Datagram,
         taken: taken,
@@ -249,14 +263,10 @@ fn hand_out(session: Session, passed: usize, taken: usize, d: &[u8]) -> Reply
 // The call ends with the piece, so many bytes having been passed over: the undecided ones are held.
 fn hold(session: Session, passed: usize, taken: usize, undecided: &[u8]) -> Reply
     requires { ⌜ (length (now undecided) ≤ 64) × Room session passed × Room session taken ⌝ }
-    ensures { λ r. ⌜ r ≡ turnOf session taken (ends passed (now (undecided .entry))) ⌝ }
+    ensures { λ r. ⌜ r ≡ replyAfter session taken (ends passed (now (undecided .entry))) ⌝ }
 {
-    let held = session::held_array(undecided);
-    let mut next = session;
-    next.held = held;
-    next.count = undecided.len();
-    next.passed = session.passed + (passed as u64);
-    next.fed = session.fed + (taken as u64);
+    let history = session.history;
+    let next = session_behind(session, history, passed, taken, undecided);
     let datagram = no_datagram();
     Reply {
         answer: Answer::Waiting,
@@ -268,7 +278,7 @@ fn hold(session: Session, passed: usize, taken: usize, undecided: &[u8]) -> Repl
 
 // The call is refused by a number: the session comes back as given, and no byte is taken.
 fn refuse(session: Session, number: u8) -> Reply
-    ensures { λ r. ⌜ r ≡ replyBy session (refused number) 0 (meaning session) ⌝ }
+    ensures { λ r. ⌜ r ≡ refusal session number ⌝ }
 {
     let datagram = no_datagram();
     Reply {
@@ -280,70 +290,71 @@ fn refuse(session: Session, number: u8) -> Reply
 }
 
 // The call's scan of a piece from a place on, so many bytes having been passed over before it.
-fn scan_on(session: Session, size: usize, passed: usize, piece: &[u8], from: usize) -> Reply
-    requires { ⌜ (rulingOn (session .setup) ≡ Accepted) × (size ≡ lengthOf (session .setup)) × (from ≤ length (now piece)) × Room session (passed + length (now piece)) ⌝ }
-    ensures { λ r. ⌜ r ≡ turnAtOnce session (now (piece .entry)) (later passed (first (verdictOf (session .setup)) (drop from (now (piece .entry))))) ⌝ }
+fn scan_on(session: Session, passed: usize, piece: &[u8], from: usize) -> Reply
+    requires { ⌜ (rulingOn (session .setup) ≡ Accepted) × (from ≤ length (now piece)) × Room session (passed + length (now piece)) ⌝ }
+    ensures { λ r. ⌜ r ≡ replyAtOnce session (now (piece .entry)) (later passed (first (verdictOf (session .setup)) (drop from (now (piece .entry))))) ⌝ }
 {
     let setup = session.setup;
     let rest = &piece[from..];
     match search::find(setup, rest) {
-        Place::Whole(at) => {
+        Place::Complete(at, size) => {
             let end = at + size;
             hand_out(session, passed + at, from + end, &rest[at..end])
         }
-        Place::Open(at) => hold(session, passed + at, piece.len(), &rest[at..]),
+        Place::Undecided(at) => hold(session, passed + at, piece.len(), &rest[at..]),
     }
 }
 
 // The call's scan of the bytes held and then of a piece: of both where they meet, and from there on of the piece alone.
-fn scan_held(session: Session, size: usize, piece: &[u8]) -> Reply
-    requires { ⌜ (rulingOn (session .setup) ≡ Accepted) × (size ≡ lengthOf (session .setup)) × (session .count < size) × Room session (200 + length (now piece)) ⌝ }
-    ensures { λ r. ⌜ r ≡ turnAtOnce session (now (piece .entry)) (first (verdictOf (session .setup)) (heldBytes session ++ now (piece .entry))) ⌝ }
+// `longest`: the greatest length of a datagram.
+fn scan_held(session: Session, longest: usize, piece: &[u8]) -> Reply
+    requires { ⌜ (rulingOn (session .setup) ≡ Accepted) × (longest ≡ rulesOf (session .setup) .greatest) × (session .count < longest) × Room session (128 + length (now piece)) ⌝ }
+    ensures { λ r. ⌜ r ≡ replyAtOnce session (now (piece .entry)) (first (verdictOf (session .setup)) (heldBytes session ++ now (piece .entry))) ⌝ }
 {
     let setup = session.setup;
     let count = session.count;
     let held = session.held;
     let len = piece.len();
-    let front = least(len, size - 1);
+    let front = least(len, longest - 1);
     let joined = join(&held[..count], &piece[..front]);
     let n = count + front;
     let window = &joined[..n];
     match search::find(setup, window) {
-        Place::Whole(at) => {
+        Place::Complete(at, size) => {
             let end = at + size;
             hand_out(session, at, end - count, &window[at..end])
         }
-        Place::Open(at) => {
+        Place::Undecided(at) => {
             if front == len {
                 hold(session, at, len, &window[at..])
             } else {
-                scan_on(session, size, at, piece, at - count)
+                scan_on(session, at, piece, at - count)
             }
         }
     }
+}
+
+// The call's scan, where nothing refuses the piece.
+fn scan_piece(session: Session, piece: &[u8]) -> Reply
+    requires { ⌜ pieceRuling session (length (now piece)) ≡ Accepted ⌝ }
+    ensures { λ r. ⌜ r ≡ feedOf session (now (piece .entry)) ⌝ }
+{
+    let setup = session.setup;
+    let count = session.count;
+    if count == 0 {
+        return scan_on(session, 0, piece, 0);
+    }
+    let longest = setup::length_of(setup);
+    scan_held(session, longest, piece)
 }
 
 // A call: 10, 11 or 12 refuses it, or it takes bytes of the piece until a datagram is complete or the piece ends (01, The scan).
 pub fn feed(session: Session, piece: &[u8]) -> Reply
     ensures { λ r. ⌜ r ≡ feedOf session (now (piece .entry)) ⌝ }
 {
-    let setup = session.setup;
-    let count = session.count;
-    let fed = session.fed;
-    let len = piece.len();
-    if !session::is_sound(session) {
-        return refuse(session, 10);
-    }
-    if 4096 < len {
-        return refuse(session, 11);
-    }
-    if 17179869184 < fed + (len as u64) {
-        return refuse(session, 12);
-    }
-    let size = setup::length_of(setup);
-    if count == 0 {
-        scan_on(session, size, 0, piece, 0)
-    } else {
-        scan_held(session, size, piece)
+    let ruling = session::rule_on_piece(session, piece.len());
+    match ruling {
+        Ruling::Refused(number) => refuse(session, number),
+        Ruling::Accepted => scan_piece(session, piece),
     }
 }

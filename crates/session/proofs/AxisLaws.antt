@@ -18,7 +18,8 @@ use Rattle.motion.specs.Totals.{Sighting, keptStep, keeps, seen, stepped, axisI
 use Rattle.motion.proofs.NineAxes.{each, step-at}
 use Rattle.motion.proofs.Bounds.{step-bound, last-range, not-begun, step-not-kept}
 use Rattle.scan.proofs.CallsLaws.{and-true}
-use Rattle.session.specs.Session.{noAxis, noGroup, noAxes, totalRight, lastRight, isIdle, idleRight, axisRight, groupRight, axesRight}
+use Rattle.session.specs.History.{noAxis, noGroup, noAxes}
+use Rattle.session.specs.Session.{totalRight, lastRight, isIdle, idleRight, axisRight, groupRight, axesRight}
 
 -- ---- one axis
 

@@ -1,2 +1,3 @@
--- A session, opening one, and refusal 10.
+-- A session, what it keeps of the datagrams handed out, opening one, and what feeding turns down.
+pub mod History
 pub mod Session

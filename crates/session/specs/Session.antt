@@ -2,53 +2,38 @@
 use Prim.Native.Nat.{ℕ, _+_, _*_, _^_, _-_}
 use mathlib.Core.Bool.{Bool, true, false, not, _&&_, _||_}
 use mathlib.Core.List.{List, [], _∷_, _++_}
-use lib.Dec.{eqb, leb}
-use lib.IntN.{pos}
+use lib.Dec.{eqb, leb, ltb}
 use lib.ListN.{length, take, drop, replicate}
 use Rattle.integers.specs.Ranges.{isZero, within, inReading}
-use Rattle.setup.specs.Setup.{rulingOn, zeroSetup, lengthOf}
+use Rattle.setup.specs.Setup.{Rule, rule, firstOf, rulingOn, zeroSetup, lengthOf}
 use Rattle.setup.specs.declared.Setup.{Setup}
 use Rattle.setup.specs.declared.Ruling.{Ruling}
 use Rattle.setup.specs.declared.Ruling.the-variants.{Accepted, Refused}
-use Rattle.motion.specs.Gaps.{datagrams}
 use Rattle.motion.specs.Totals.{keeps}
 use Rattle.motion.specs.declared.Axis.{Axis}
 use Rattle.motion.specs.declared.GroupAxes.{GroupAxes}
 use Rattle.motion.specs.declared.Axes.{Axes}
-use Rattle.scan.specs.Calls.{Limits}
-use Rattle.scan.specs.Front.{heldRule}
+use Rattle.scan.specs.Rules as rules
+use Rattle.search.specs.Search.{limitsOf, rulesOf}
+use Rattle.session.specs.History.{noHistory}
+use Rattle.session.specs.declared.History.{History}
 use Rattle.session.specs.declared.Session.{Session}
 use Rattle.session.specs.declared.Opened.{Opened}
+use Rattle.session.specs.declared.Limits.{Limits}
 
 -- ---- a fresh session, and opening
-
--- an axis to which no fit datagram came
-abbrev pub noAxis : Axis
-noAxis = record { begun = false; last = pos 0; total = pos 0 }
-
-abbrev pub noGroup : GroupAxes
-noGroup = record { x = noAxis; y = noAxis; z = noAxis }
-
-abbrev pub noAxes : Axes
-noAxes = record { gyro = noGroup; accelerometer = noGroup; inclinometer = noGroup }
-
--- a fresh session holds nothing
-unfoldable pub freshOf : Setup → Session
-freshOf u =
-    record {
-      setup = u;
-      held = replicate 64 0;
-      count = 0;
-      datagrams = datagrams 0;
-      passed = 0;
-      fed = 0;
-      previous = 0;
-      axes = noAxes;
-    }
 
 -- bytes with zeros behind them, n in all: so the held bytes stand in their array
 abbrev pub padded : ℕ → List ℕ → List ℕ
 padded n l = l ++ replicate (n - length l) 0
+
+-- a session of its parts: the setup, what it keeps of the datagrams, the bytes passed over and fed, the bytes held
+abbrev pub sessionWith : Setup → History → ℕ → ℕ → List ℕ → Session
+sessionWith u h passed fed held = record { setup = u; held = padded 64 held; count = length held; passed = passed; fed = fed; history = h }
+
+-- a fresh session holds nothing
+unfoldable pub freshOf : Setup → Session
+freshOf u = sessionWith u noHistory 0 0 []
 
 -- opening gives a fresh session, or refuses the setup by 4 to 9 and gives a session of zeros
 abbrev pub openedBy : Ruling → Setup → Session
@@ -60,9 +45,9 @@ opening u = record { answer = rulingOn u; session = openedBy (rulingOn u) u }
 
 -- ---- what feeding asks of a session: refusal 10, in 01's order
 
--- the most bytes of a piece (11), and of a session (10 and 12)
-abbrev pub limits : Limits
-limits = record { piece = 4096; session = 2 ^ 34 }
+-- limits as the code has them
+abbrev pub asStruct : rules.Limits → Limits
+asStruct l = record { piece = l .piece; «too_long» = l .tooLong; session = l .session }
 
 -- its setup would not be refused
 abbrev pub isAccepted : Ruling → Bool
@@ -77,7 +62,7 @@ abbrev pub heldBytes : Session → List ℕ
 heldBytes s = take (s .count) (s .held)
 
 abbrev pub heldRight : Session → Bool
-heldRight s = leb (s .count) (length (s .held)) && heldRule (s .setup .identifier) (lengthOf (s .setup)) (heldBytes s)
+heldRight s = leb (s .count) (length (s .held)) && rulesOf (s .setup) .mayHold (heldBytes s)
 
 -- they are zero beyond their count
 unfoldable pub allZero : List ℕ → Bool
@@ -87,12 +72,12 @@ allZero (b ∷ s) = eqb b 0 && allZero s
 abbrev pub restRight : Session → Bool
 restRight s = allZero (drop (s .count) (s .held))
 
--- L × datagrams + passed over + held is bytes fed, which don't exceed 2 ^ 34
+-- L × datagrams + passed over + held is bytes fed, which don't exceed the session's limit
 abbrev pub sumRight : Session → Bool
-sumRight s = eqb (lengthOf (s .setup) * s .datagrams .0 + s .passed + s .count) (s .fed)
+sumRight s = eqb (lengthOf (s .setup) * s .history .datagrams .0 + s .passed + s .count) (s .fed)
 
 abbrev pub fedRight : Session → Bool
-fedRight s = leb (s .fed) (limits .session)
+fedRight s = leb (s .fed) (limitsOf (s .setup) .session)
 
 -- of an axis, after n datagrams: its total is at most n × 2 ^ 23 in size
 abbrev pub totalRight : ℕ → Axis → Bool
@@ -128,4 +113,14 @@ isSound s =
     (restRight s &&
     (sumRight s &&
     (fedRight s &&
-    axesRight (s .setup) (s .datagrams .0) (s .axes)))))
+    axesRight (s .setup) (s .history .datagrams .0) (s .history .axes)))))
+
+-- ---- what feeding turns down, of a piece of n bytes
+
+abbrev pub pieceRules : Session → ℕ → List Rule
+pieceRules s n =
+    let l : rules.Limits = limitsOf (s .setup) in
+    rule 10 (not (isSound s)) ∷ rule (l .tooLong) (ltb (l .piece) n) ∷ rule 12 (ltb (l .session) (s .fed + n)) ∷ []
+
+unfoldable pub pieceRuling : Session → ℕ → Ruling
+pieceRuling s n = firstOf (pieceRules s n)

@@ -1,18 +1,40 @@
 // A session: opening one, and whether feeding turns it down (01, The scan; What is turned down, 4 to 10).
 ghost use mathlib.Core.Path.{_≡_};
 ghost use mathlib.Core.Bool.{_&&_};
-ghost use Prim.Native.Nat.{_+_, _*_, _^_, _≤_, min};
+ghost use Prim.Native.Nat.{_+_, _*_, _^_, _≤_, _<_, min};
 ghost use lib.Dec.{eqb, leb};
 ghost use lib.ListN.{length, take, drop};
 ghost use Rattle.setup.specs.Setup.{zeroSetup};
-ghost use Rattle.scan.specs.Front.{heldRule};
-ghost use Rattle.session.specs.Session.{noAxes, freshOf, padded, opening, isAccepted, allZero, axisRight, groupRight, axesRight, isSound};
+ghost use Rattle.scan.specs.OneLength.{heldRule};
+ghost use Rattle.search.specs.Search.{limitsOf};
+ghost use Rattle.session.specs.History.{noAxes, noHistory, gapNext, advanced};
+ghost use Rattle.session.specs.Session.{padded, sessionWith, freshOf, opening, asStruct, isAccepted, allZero, axisRight, groupRight, axesRight, isSound, pieceRuling};
 use motion::Axes;
 use motion::Axis;
 use motion::Datagrams;
+use motion::Gap;
 use motion::GroupAxes;
 use setup::Ruling;
 use setup::Setup;
+
+// The most bytes of a piece, the number that refuses a longer one, and the most bytes of a session, 2^34 (01, What is turned down, 10 to 12).
+const PIECE_LIMIT: usize = 4096;
+
+const TOO_LONG: u8 = 11;
+
+const SESSION_LIMIT: u64 = 17179869184;
+
+// The greatest number of 64 bits.
+const GREATEST_COUNT: u64 = 18446744073709551615;
+
+// What a session keeps of the datagrams handed out, beside the bytes and counts of the scan.
+pub struct History {
+    // how many there were
+    pub datagrams: Datagrams,
+    // the counter of the last one
+    pub previous: u8,
+    pub axes: Axes,
+}
 
 // What is kept from call to call.
 pub struct Session {
@@ -20,14 +42,10 @@ pub struct Session {
     // the bytes held, zeros behind them, and how many they are
     pub held: [u8; 64],
     pub count: usize,
-    // how many datagrams were handed out
-    pub datagrams: Datagrams,
     // how many bytes were passed over, and how many were fed
     pub passed: u64,
     pub fed: u64,
-    // the counter of the datagram handed out last
-    pub previous: u8,
-    pub axes: Axes,
+    pub history: History,
 }
 
 // What opening gives back: the ruling on the setup, and a fresh session, one of zeros where the setup is refused.
@@ -57,21 +75,98 @@ fn no_axes() -> Axes
     }
 }
 
+// A history without any datagram.
+fn no_history() -> History
+    ensures { λ r. ⌜ r ≡ noHistory ⌝ }
+{
+    let axes = no_axes();
+    History {
+        datagrams: Datagrams(0),
+        previous: 0,
+        axes: axes,
+    }
+}
+
+// What lies in front of the next datagram, of its counter (01, Status, doubles, gaps).
+pub fn gap_before(setup: Setup, history: History, counter: u8) -> Gap
+    ensures { λ r. ⌜ r ≡ gapNext setup history counter ⌝ }
+{
+    motion::gap_between(setup, history.datagrams.0 == 0, history.previous, counter)
+}
+
+// The history behind the next datagram, of its readings, statuses and counter (01, Totals).
+pub fn advance(
+    setup: Setup,
+    history: History,
+    readings: [[i32; 3]; 3],
+    statuses: [u8; 3],
+    counter: u8,
+) -> History
+    ensures { λ r. ⌜ r ≡ advanced setup history readings statuses counter ⌝ }
+{
+    let handed = history.datagrams.0;
+    if GREATEST_COUNT <= handed {
+        return history;
+    }
+    let before = history.axes;
+    let after = motion::step(setup, before, readings, statuses);
+    History {
+        datagrams: Datagrams(handed + 1),
+        previous: counter,
+        axes: after,
+    }
+}
+
+// How many of so many bytes a session can hold.
+fn fitting(count: usize) -> usize
+    ensures { λ r. ⌜ r ≡ min count 64 ⌝ }
+{
+    if count < 64 { count } else { 64 }
+}
+
+// Bytes as a session holds them: the first 64, with zeros behind where there are fewer.
+fn held_array(bytes: &[u8]) -> [u8; 64]
+    ensures { λ r. ⌜ r ≡ padded 64 (take 64 (now (bytes .entry))) ⌝ }
+{
+    let count = fitting(bytes.len());
+    let mut held = [0u8; 64];
+    let mut i = 0;
+    while i < count {
+        held[i] = bytes[i];
+        i += 1;
+    }
+    held
+}
+
+// A session of its parts, that holds the undecided bytes, of which at most 64 are kept.
+pub fn session_with(
+    setup: Setup,
+    history: History,
+    passed: u64,
+    fed: u64,
+    undecided: &[u8],
+) -> Session
+    ensures { λ r. ⌜ r ≡ sessionWith setup history passed fed (take 64 (now (undecided .entry))) ⌝ }
+{
+    let held = held_array(undecided);
+    let count = fitting(undecided.len());
+    Session {
+        setup: setup,
+        held: held,
+        count: count,
+        passed: passed,
+        fed: fed,
+        history: history,
+    }
+}
+
 // A session that holds nothing and has counted nothing.
 fn fresh(setup: Setup) -> Session
     ensures { λ r. ⌜ r ≡ freshOf setup ⌝ }
 {
-    let axes = no_axes();
-    Session {
-        setup: setup,
-        held: [0; 64],
-        count: 0,
-        datagrams: Datagrams(0),
-        passed: 0,
-        fed: 0,
-        previous: 0,
-        axes: axes,
-    }
+    let history = no_history();
+    let none = [0u8; 1];
+    session_with(setup, history, 0, 0, &none[..0])
 }
 
 // The setup of a session of zeros.
@@ -117,25 +212,21 @@ pub fn open(setup: Setup) -> Opened
     }
 }
 
-// How many of so many bytes a session can hold.
-fn fitting(count: usize) -> usize
-    ensures { λ r. ⌜ r ≡ min count 64 ⌝ }
-{
-    if count < 64 { count } else { 64 }
+// The limits of a setup's sessions: the most bytes of a piece, the number that refuses a longer one, the most bytes of a session.
+struct Limits {
+    piece: usize,
+    too_long: u8,
+    session: u64,
 }
 
-// Bytes as a session holds them: the first 64, with zeros behind where there are fewer.
-pub fn held_array(bytes: &[u8]) -> [u8; 64]
-    ensures { λ r. ⌜ r ≡ padded 64 (take 64 (now (bytes .entry))) ⌝ }
+fn limits_of(setup: Setup) -> Limits
+    ensures { λ r. ⌜ r ≡ asStruct (limitsOf setup) ⌝ }
 {
-    let count = fitting(bytes.len());
-    let mut held = [0u8; 64];
-    let mut i = 0;
-    while i < count {
-        held[i] = bytes[i];
-        i += 1;
+    Limits {
+        piece: PIECE_LIMIT,
+        too_long: TOO_LONG,
+        session: SESSION_LIMIT,
     }
-    held
 }
 
 // Whether the bytes behind a place are all zero.
@@ -164,23 +255,25 @@ fn held_right(identifier: u8, size: usize, held: [u8; 64], count: usize) -> bool
     ((count == 0) | ((held[0] == identifier) & (count < size))) & zeros
 }
 
-// Whether the byte sum is right and not above 2^34. Counts above that are turned down before they are multiplied.
-fn counts_right(size: u64, datagrams: u64, passed: u64, held: u64, fed: u64) -> bool
+// Whether the byte sum is right and not above the session's limit. Counts above that are turned down before they are multiplied.
+fn counts_right(setup: Setup, size: u64, datagrams: u64, passed: u64, held: u64, fed: u64) -> bool
     requires { ⌜ (18 ≤ size) × (size ≤ 65) × (held ≤ 64) ⌝ }
-    ensures { λ r. ⌜ r ≡ (eqb (size * datagrams + passed + held) fed && leb fed (2 ^ 34)) ⌝ }
+    ensures { λ r. ⌜ r ≡ (eqb (size * datagrams + passed + held) fed && leb fed (limitsOf setup .session)) ⌝ }
 {
-    if 17179869184 < datagrams {
+    let limits = limits_of(setup);
+    let most = limits.session;
+    if most < datagrams {
         return false;
     }
-    if 17179869184 < passed {
+    if most < passed {
         return false;
     }
-    (size * datagrams + passed + held == fed) & (fed <= 17179869184)
+    (size * datagrams + passed + held == fed) & (fed <= most)
 }
 
 // Whether an axis is one that so many datagrams can leave.
 fn axis_right(kept: bool, datagrams: u64, axis: Axis) -> bool
-    requires { ⌜ datagrams ≤ 2 ^ 34 ⌝ }
+    requires { ⌜ datagrams * 2 ^ 23 < 2 ^ 64 ⌝ }
     ensures { λ r. ⌜ r ≡ axisRight kept datagrams axis ⌝ }
 {
     let begun = axis.begun;
@@ -195,7 +288,7 @@ fn axis_right(kept: bool, datagrams: u64, axis: Axis) -> bool
 
 // The same of the three axes of a group.
 fn group_right(kept: bool, datagrams: u64, group: GroupAxes) -> bool
-    requires { ⌜ datagrams ≤ 2 ^ 34 ⌝ }
+    requires { ⌜ datagrams * 2 ^ 23 < 2 ^ 64 ⌝ }
     ensures { λ r. ⌜ r ≡ groupRight kept datagrams group ⌝ }
 {
     let x = axis_right(kept, datagrams, group.x);
@@ -206,7 +299,7 @@ fn group_right(kept: bool, datagrams: u64, group: GroupAxes) -> bool
 
 // And of the nine.
 fn axes_right(setup: Setup, datagrams: u64, axes: Axes) -> bool
-    requires { ⌜ datagrams ≤ 2 ^ 34 ⌝ }
+    requires { ⌜ datagrams * 2 ^ 23 < 2 ^ 64 ⌝ }
     ensures { λ r. ⌜ r ≡ axesRight setup datagrams axes ⌝ }
 {
     let kept = motion::kept_groups(setup);
@@ -223,7 +316,9 @@ pub fn is_sound(session: Session) -> bool
     let setup = session.setup;
     let held = session.held;
     let count = session.count;
-    let datagrams = session.datagrams.0;
+    let history = session.history;
+    let datagrams = history.datagrams.0;
+    let axes = history.axes;
     let answer = setup::judge(setup);
     if !is_accepted(answer) {
         return false;
@@ -233,6 +328,7 @@ pub fn is_sound(session: Session) -> bool
         return false;
     }
     if !counts_right(
+        setup,
         size as u64,
         datagrams,
         session.passed,
@@ -241,5 +337,23 @@ pub fn is_sound(session: Session) -> bool
     ) {
         return false;
     }
-    axes_right(setup, datagrams, session.axes)
+    axes_right(setup, datagrams, axes)
+}
+
+// The ruling on feeding a session a piece of so many bytes: 10, 11 or 12 turns it down (01, What is turned down).
+pub fn rule_on_piece(session: Session, length: usize) -> Ruling
+    ensures { λ r. ⌜ r ≡ pieceRuling session length ⌝ }
+{
+    if !is_sound(session) {
+        return Ruling::Refused(10);
+    }
+    let setup = session.setup;
+    let limits = limits_of(setup);
+    if limits.piece < length {
+        return Ruling::Refused(limits.too_long);
+    }
+    if limits.session < session.fed + (length as u64) {
+        return Ruling::Refused(12);
+    }
+    Ruling::Accepted
 }

@@ -5,7 +5,7 @@ use mathlib.Core.List.{List, [], _∷_}
 use mathlib.Core.Path.{_≡_, refl}
 use lib.IntN.{pos}
 use Rattle.integers.specs.Bytes.{bigEndian, twosComplement, signedBytes}
-use Rattle.crc.specs.Check.{stim300, shift, shifts, byteStep, register, padding, padded, checkOf, check32}
+use Rattle.crc.specs.Check.{stim300, shift, shifts, byteStep, register, padding, covered, checkOf, check32}
 use Rattle.setup.specs.Layout.{partsOf, rowAt, partsAt}
 use Rattle.setup.specs.declared.Setup.{Setup}
 use Rattle.wire.specs.Acceptable.{checkRight, endingRight, acceptableIn, acceptable}
@@ -22,7 +22,7 @@ exampleSetup = record { rate = 1000; identifier = 0x90; termination = 0; units =
 
 pub first-acceptable : acceptable exampleSetup first ≡ true
 unfolding
-    acceptable acceptableIn checkRight endingRight rowAt partsOf bigEndian check32 checkOf stim300 padded padding register byteStep shifts shift
+    acceptable acceptableIn checkRight endingRight rowAt partsOf bigEndian check32 checkOf stim300 covered padding register byteStep shifts shift
 first-acceptable = refl
 
 pub first-fields : fieldsOf 0x90 first

@@ -8,16 +8,21 @@ use borrow.Author.Needs.{needs}
 use lib.ListN.{length}
 use lib.Seq.{sets, length-sets}
 use Rattle.text.specs.TextLine.{outside}
+use Rattle.search.specs.Search.{limitsOf}
 use Rattle.session.proofs.Soundness.{sound-facts}
+use Rattle.session.proofs.PieceRulings.{Admitted, admitted}
 use Rattle.receiver.specs.declared.Reply.{Reply}
-use Rattle.receiver.specs.Feed.{meaning}
+use Rattle.receiver.specs.Feed.{stateOf}
 use Rattle.receiver.proofs.EachCall.{not-refused}
 use Rattle.lines.specs.declared.Received.the-variants.{Lines}
-use Rattle.lines.specs.Lines.{lineOf, foundIn}
-use Rattle.lines.specs.Steps.{startOf, nextLine, Ready, scanAt, Made}
-use Rattle.lines.proofs.HeldFirst.{Handed, handed, datagram, turn, first-line, first-inside, first-short, first-ready, first-fed, first-made, waited-made}
+use Rattle.lines.specs.Lines.{lineOf, foundIn, enough}
+use Rattle.lines.specs.PieceParts.{startOf, nextLine, Ready, scanAt, Answered}
+use Rattle.lines.proofs.HeldFirst.{Handed, handed, datagram, turn, first-line, first-inside, first-short, first-ready, first-fed, first-answered, waited-answered}
 use Rattle.lines.proofs.lines_behind.Statement.{statement}
 use Rattle.lines.proofs.lines_behind.Tie as tie
+
+permitted : (s : tie.Start) → Admitted (s .args .session) (length (s .args .piece .now))
+permitted s = admitted (s .args .session) (length (s .args .piece .now)) (s .pre .admitted)
 
 -- the datagram that came back, and the reply with it
 given : (c : tie.After-enum-told) → let s = c .before .before .before .before .before .before .before in Handed (s .args .session) (s .args .piece .now) (length (s .args .buffer .now)) (s .pre)
@@ -31,18 +36,18 @@ replied c = c .before .before .before .feed .ensures ∙ given c .reply
 
 -- its line
 abbrev line : tie.After-enum-told → List ℕ
-line c = let s = c .before .before .before .before .before .before .before in nextLine (s .args .session .setup) (meaning (s .args .session) .carried) (datagram (s .args .session) (s .args .piece .now) (length (s .args .buffer .now)) (s .pre) (given c))
+line c = let s = c .before .before .before .before .before .before .before in nextLine (s .args .session .setup) (stateOf (s .args .session) .carried) (datagram (s .args .session) (s .args .piece .now) (length (s .args .buffer .now)) (s .pre) (given c))
 
-lined : (c : tie.After-enum-told) → let r = c .before .before .before .feed .result in lineOf (c .before .before .before .before .before .before .before .args .session .setup) (r .session .datagrams .0) (r .datagram) ≡ line c
+lined : (c : tie.After-enum-told) → let r = c .before .before .before .feed .result in lineOf (c .before .before .before .before .before .before .before .args .session .setup) (r .session .history .datagrams .0) (r .datagram) ≡ line c
 lined c =
     let s = c .before .before .before .before .before .before .before in
-    ap (λ (r : Reply). lineOf (s .args .session .setup) (r .session .datagrams .0) (r .datagram)) (replied c)
+    ap (λ (r : Reply). lineOf (s .args .session .setup) (r .session .history .datagrams .0) (r .datagram)) (replied c)
     ∙ first-line (s .args .session) (s .args .piece .now) (length (s .args .buffer .now)) (s .pre) (given c)
 
-short : (c : tie.After-enum-told) → let r = c .before .before .before .feed .result in length (lineOf (c .before .before .before .before .before .before .before .args .session .setup) (r .session .datagrams .0) (r .datagram)) ≤ 307
+short : (c : tie.After-enum-told) → let r = c .before .before .before .feed .result in length (lineOf (c .before .before .before .before .before .before .before .args .session .setup) (r .session .history .datagrams .0) (r .datagram)) ≤ 307
 short c =
     let s = c .before .before .before .before .before .before .before in
-    subst (λ (r : Reply). length (lineOf (s .args .session .setup) (r .session .datagrams .0) (r .datagram)) ≤ 307) (sym (replied c))
+    subst (λ (r : Reply). length (lineOf (s .args .session .setup) (r .session .history .datagrams .0) (r .datagram)) ≤ 307) (sym (replied c))
     (first-short (s .args .session) (s .args .piece .now) (length (s .args .buffer .now)) (s .pre) (given c))
 
 feed-requires : tie.Need-feed-requires
@@ -53,11 +58,11 @@ enum-told c = search needs
 
 first-line-requires : tie.Need-first-line-requires
 first-line-requires c κs =
-    let s = c .before .before .before .before .before .before .before .before .before in
-    let g = c .before .before in (
-      sound-facts (s .args .session) (s .pre .sound) .accepted,
+    let s = c .before .before .before .before .before .before .before .before .before .before in
+    let g = c .before .before .before in (
+      sound-facts (s .args .session) (permitted s .sound) .accepted,
       (
-        subst (λ (r : Reply). outside (r .session .datagrams .0) (r .datagram .gyro ∷ r .datagram .accelerometer ∷ r .datagram .inclinometer ∷ []) (r .datagram .totals) ≡ false) (sym (replied g))
+        subst (λ (r : Reply). outside (r .session .history .datagrams .0) (r .datagram .gyro ∷ r .datagram .accelerometer ∷ r .datagram .inclinometer ∷ []) (r .datagram .totals) ≡ false) (sym (replied g))
             (first-inside (s .args .session) (s .args .piece .now) (length (s .args .buffer .now)) (s .pre) (given g)),
         omega (arith, short g, s .pre .enough),
       ),
@@ -65,16 +70,16 @@ first-line-requires c κs =
 
 lines-of-requires : tie.Need-lines-of-requires
 lines-of-requires c κs =
-    let s = c .before .before .before .before .before .before .before .before .before .before .before .before .before in
-    let g = c .before .before .before .before .before .before in
+    let s = c .before .before .before .before .before .before .before .before .before .before .before .before .before .before in
+    let g = c .before .before .before .before .before .before .before in
     let f = c .before .before .before .first-line in
     let b = s .args .buffer .now in
     let p = s .args .piece .now in
     let few : f .result ≤ 307 = omega (arith, f .ensures .place, short g) in
-    let wide : 72000 ≤ length (f .last .1 .1 .1 .0) = omega (arith, ap length (f .ensures .bytes), length-sets b 0 (lineOf (s .args .session .setup) (c .before .before .before .before .before .before .before .before .before .feed .result .session .datagrams .0) (c .before .before .before .before .before .before .before .before .before .feed .result .datagram)), s .pre .enough) in (
+    let wide : enough ≤ length (f .last .1 .1 .1 .0) = omega (arith, ap length (f .ensures .bytes), length-sets b 0 (lineOf (s .args .session .setup) (c .before .before .before .before .before .before .before .before .before .before .feed .result .session .history .datagrams .0) (c .before .before .before .before .before .before .before .before .before .before .feed .result .datagram)), s .pre .enough) in (
       subst (λ (r : Reply). Ready (r .session .setup) (startOf (r .session) (r .taken) (f .result)) (length p) (length (f .last .1 .1 .1 .0))) (sym (replied g))
           (first-ready (s .args .session) p (length b) (s .pre) (given g) (f .result) (length (f .last .1 .1 .1 .0)) few wide),
-      subst (λ (r : Reply). r .session .fed + (length p - r .taken) ≤ 2 ^ 34) (sym (replied g))
+      subst (λ (r : Reply). r .session .fed + (length p - r .taken) ≤ limitsOf (r .session .setup) .session) (sym (replied g))
           (first-fed (s .args .session) p (length b) (s .pre) (given g)),
     )
 
@@ -92,16 +97,16 @@ same-length c = search needs
 
 returns : tie.Need-returns
 returns c =
-    let s = c .before .before .before .before .before .before .before .before .before .before .before .before .before .before .before .before in
-    let g = c .before .before .before .before .before .before .before .before .before in
+    let s = c .before .before .before .before .before .before .before .before .before .before .before .before .before .before .before .before .before in
+    let g = c .before .before .before .before .before .before .before .before .before .before in
     let f = c .before .before .before .before .before .before .first-line in
     let o = c .before .before .lines-of in
     let b = s .args .buffer .now in
     let p = s .args .piece .now in
     let bytes : f .last .1 .1 .1 .0 ≡ sets b 0 (line g) = f .ensures .bytes ∙ ap (sets b 0) (lined g) in
-    first-made (s .args .session) p (length b) (s .pre) (given g) b (f .last .1 .1 .1 .0) (o .last .1 .1 .1 .1 .0) (f .result) (o .result)
+    first-answered (s .args .session) p (length b) (s .pre) (given g) b (f .last .1 .1 .1 .0) (o .last .1 .1 .1 .1 .0) (f .result) (o .result)
     (f .ensures .place ∙ ap (λ (l : List ℕ). 0 + length l) (lined g)) bytes (ap length bytes ∙ length-sets b 0 (line g))
-    (subst (λ (r : Reply). Made (r .session) (f .result) (scanAt (r .session .setup) p (r .taken)) (length p - r .taken) (f .last .1 .1 .1 .0) (o .last .1 .1 .1 .1 .0) (o .result)) (replied g) (o .ensures))
+    (subst (λ (r : Reply). Answered (r .session) (f .result) (scanAt (r .session .setup) p (r .taken)) (length p - r .taken) (f .last .1 .1 .1 .0) (o .last .1 .1 .1 .1 .0) (o .result)) (replied g) (o .ensures))
 
 returns-2 : tie.Need-returns-2
 returns-2 c =
@@ -110,14 +115,14 @@ returns-2 c =
     let b = s .args .buffer .now in
     let p = s .args .piece .now in
     let e = c .before .before .before .feed .ensures in
-    subst (λ (r : Reply). Made a 0 (foundIn a p) (length p) b b (record { answer = Lines 0; session = r .session })) (sym e)
-    (waited-made a p (length b) (s .pre) (ap (λ (r : Reply). r .answer) (sym e) ∙ c .enum-told2 .given .1) b)
+    subst (λ (r : Reply). Answered a 0 (foundIn a p) (length p) b b (record { answer = Lines 0; session = r .session })) (sym e)
+    (waited-answered a p (length b) (s .pre) (ap (λ (r : Reply). r .answer) (sym e) ∙ c .enum-told2 .given .1) b)
 
 returns-3 : tie.Need-returns-3
 returns-3 c =
     let s = c .before .before .before .before .before .before .before .before .before in
     absurd
-    (not-refused (s .args .session) (s .args .piece .now) (s .pre .sound) (s .pre .piece) (s .pre .session) (c .before .before .answer .given .0 .0)
+    (not-refused (s .args .session) (s .args .piece .now) (permitted s .sound) (permitted s .piece) (permitted s .session) (c .before .before .answer .given .0 .0)
     (ap (λ (r : Reply). r .answer) (sym (c .before .before .before .before .before .feed .ensures)) ∙ c .before .before .answer .given .1))
 
 pub lines-behind-spec : {M : Type 1} → statement M

@@ -1,40 +1,29 @@
 -- `lines::lines_of` meets its contract. Assumes nothing.
-use Prim.Native.Nat.{_-_, _≤_}
-use mathlib.Core.Path.{_≡_, ap, _∙_}
-use native.Mathlib.Omega.{arith}
+use Rattle.lines.proofs.LoopInvariant.{answered-finished}
 use borrow.Author.Needs.{needs}
-use lib.ListN.{length, take, drop, length-drop}
-use lib.Seq.{take-all}
-use Rattle.setup.proofs.Refusals.{accepted-length}
-use Rattle.search.proofs.Places.{to-end}
-use Rattle.session.specs.Session.{padded}
-use Rattle.lines.proofs.Going.{made-through}
 use Rattle.lines.proofs.lines_of.Statement.{statement}
 use Rattle.lines.proofs.lines_of.Tie as tie
 
 lines-from-requires : tie.Need-lines-from-requires
-lines-from-requires c κs = c .before .before .before .before .before .pre .0
+lines-from-requires c κs = search needs
 
-sub-held-array : tie.Need-sub-held-array
-sub-held-array c = c .before .before .before .lines-from .ensures .within
+sub-session-with : tie.Need-sub-session-with
+sub-session-with c = search needs
 
-part-held-array-start : tie.Need-part-held-array-start
-part-held-array-start c = c .before .before .before .lines-from .ensures .within
+add-session-with : tie.Need-add-session-with
+add-session-with c = search needs
 
-part-held-array-end : tie.Need-part-held-array-end
-part-held-array-end c = search needs
+sub-session-with-2 : tie.Need-sub-session-with-2
+sub-session-with-2 c = search needs
 
-held-array-requires : tie.Need-held-array-requires
-held-array-requires c κs = search needs
+part-session-with-start : tie.Need-part-session-with-start
+part-session-with-start c = search needs
 
-sub-t18 : tie.Need-sub-t18
-sub-t18 c = c .before .before .before .before .before .lines-from .ensures .within
+part-session-with-end : tie.Need-part-session-with-end
+part-session-with-end c = search needs
 
-sub-t22 : tie.Need-sub-t22
-sub-t22 c = c .before .before .before .before .before .before .before .before .before .before .before .pre .0 .within
-
-add-t24 : tie.Need-add-t24
-add-t24 c = omega (arith, c .before .before .before .before .before .before .before .before .before .before .before .before .pre .1)
+session-with-requires : tie.Need-session-with-requires
+session-with-requires c κs = search needs
 
 same-length : tie.Need-same-length
 same-length c = search needs
@@ -44,29 +33,19 @@ returns c =
     let s = c .before .before .before .before .before .before .before .before .before .before .before .before in
     let a = s .args in
     let f = c .before .before .before .before .before .before .lines-from in
-    let rest = take (length (a .piece .now) - f .result .at) (drop (f .result .at) (a .piece .now)) in
-    let few : length rest ≤ 64 =
-    omega (
-      arith,
-      ap length (to-end (a .piece .now) (f .result .at)),
-      length-drop (f .result .at) (a .piece .now),
-      f .ensures .short,
-      accepted-length (a .session .setup) (s .pre .0 .accepted) .1,
-    ) in
-    let kept : c .before .held-array .result ≡ padded 64 rest = c .before .held-array .ensures ∙ ap (padded 64) (take-all 64 rest few) in
-    made-through (a .session) (a .at) (a .used) (a .piece .now) (a .buffer .now) (f .last .1 .1 .1 .0) (c .before .held-array .result) (f .result) (f .ensures) kept
+    answered-finished (a .session) (a .at) (a .used) (a .piece .now) (a .buffer .now) (f .last .1 .1 .1 .0) (f .result) (c .session-with .result) (s .pre .0 .accepted)
+    (f .ensures) (c .session-with .ensures)
 
 pub lines-of-spec : {M : Type 1} → statement M
 lines-of-spec =
     tie.close
     (tie.spec
     lines-from-requires
-    sub-held-array
-    part-held-array-start
-    part-held-array-end
-    held-array-requires
-    sub-t18
-    sub-t22
-    add-t24
+    sub-session-with
+    add-session-with
+    sub-session-with-2
+    part-session-with-start
+    part-session-with-end
+    session-with-requires
     same-length
     returns)

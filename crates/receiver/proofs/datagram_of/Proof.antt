@@ -2,7 +2,7 @@
 use mathlib.Core.Path.{_≡_}
 use lib.ListN.{length}
 use Rattle.receiver.specs.Feed.{datagramWith}
-use Rattle.receiver.proofs.Turns.{flagged-three}
+use Rattle.receiver.proofs.CallParts.{flagged-three}
 use borrow.Author.Needs.{needs}
 use Rattle.receiver.proofs.datagram_of.Statement.{statement}
 use Rattle.receiver.proofs.datagram_of.Tie as tie
@@ -31,9 +31,6 @@ flagged-channels-requires-3 c κs = search needs
 group-values-requires : tie.Need-group-values-requires
 group-values-requires c κs = search needs
 
-gap-between-requires : tie.Need-gap-between-requires
-gap-between-requires c κs = search needs
-
 totals-of-requires : tie.Need-totals-of-requires
 totals-of-requires c κs = search needs
 
@@ -53,14 +50,13 @@ returns : tie.Need-returns
 unfolding datagramWith
 returns c =
     let s = c .before .before .before in
-    let v = s .before .before .before in
+    let v = s .before .before in
     let start = v .before .before .before .before .before in
     rw (
       v .before .before .before .flagged-channels .ensures,
       v .before .before .flagged-channels2 .ensures,
       v .before .flagged-channels3 .ensures,
       v .group-values .ensures,
-      s .before .before .gap-between .ensures,
       s .before .totals-of .ensures,
       s .total-doubles .ensures,
       flagged-three (start .args .fields .statuses) (three start),
@@ -77,7 +73,6 @@ datagram-of-spec =
     array-read-flagged-channels-3
     flagged-channels-requires-3
     group-values-requires
-    gap-between-requires
     totals-of-requires
     total-doubles-requires
     array-copy-out-gyro

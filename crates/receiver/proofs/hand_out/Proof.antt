@@ -1,8 +1,9 @@
 -- `receiver::hand_out` meets its contract. Assumes nothing.
 use native.Mathlib.Omega.{arith}
-use Rattle.receiver.specs.Feed.{keptNext, tell}
-use Rattle.receiver.specs.Turns.{turnOf}
-use Rattle.receiver.proofs.Turns.{contents-read}
+use Rattle.session.proofs.HistoryLaws.{advanced-next}
+use Rattle.receiver.specs.Feed.{historyAfter, tell}
+use Rattle.receiver.specs.CallParts.{replyAfter}
+use Rattle.receiver.proofs.CallParts.{contents-read}
 use borrow.Author.Needs.{needs}
 use Rattle.receiver.proofs.hand_out.Statement.{statement}
 use Rattle.receiver.proofs.hand_out.Tie as tie
@@ -13,31 +14,39 @@ readings-requires c κs = search needs
 fields-of-requires : tie.Need-fields-of-requires
 fields-of-requires c κs = search needs
 
-step-requires : tie.Need-step-requires
-step-requires c κs = search needs
+gap-before-requires : tie.Need-gap-before-requires
+gap-before-requires c κs = search needs
+
+advance-requires : tie.Need-advance-requires
+advance-requires c κs = search needs
 
 datagram-of-requires : tie.Need-datagram-of-requires
 datagram-of-requires c κs = search needs
 
-add-t17 : tie.Need-add-t17
-add-t17 c = omega (arith, c .before .before .before .before .before .before .before .before .pre .0 .datagrams)
+slice-aggregate-session-behind : tie.Need-slice-aggregate-session-behind
+slice-aggregate-session-behind c = search needs
 
-add-t20 : tie.Need-add-t20
-add-t20 c = omega (arith, c .before .before .before .before .before .before .before .before .before .pre .0 .passed)
-
-add-t22 : tie.Need-add-t22
-add-t22 c = omega (arith, c .before .before .before .before .before .before .before .before .before .before .pre .1 .fed)
+session-behind-requires : tie.Need-session-behind-requires
+session-behind-requires c κs =
+    let s = c .before .before .before .before .before .before .before .before .before .before .before in
+    (s .pre .0, s .pre .1, omega arith)
 
 returns : tie.Need-returns
-unfolding turnOf keptNext tell
+unfolding replyAfter historyAfter tell
 returns c =
-    let s = c .before .before in
-    let a = c .before .before .before .before .before .before .before .before .before .before .args in
+    let d = c .before .before in
+    let h = d .before .before in
+    let f = h .before .before .before in
+    let s = c .before .before .before .before .before .before .before .before .before .before .before .before in
+    let a = s .args in
     rw (
-      s .datagram-of .ensures,
-      s .before .step .ensures,
-      s .before .before .before .before .fields-of .ensures,
-      s .before .before .before .before .before .readings .ensures,
+      c .session-behind .ensures,
+      d .datagram-of .ensures,
+      h .advance .ensures,
+      advanced-next (a .session .setup) (a .session .history) _ _ _ (s .pre .0 .datagrams),
+      h .before .gap-before .ensures,
+      f .fields-of .ensures,
+      f .before .readings .ensures,
       contents-read (a .session .setup .identifier) (a .d .now),
     )
 
@@ -47,9 +56,9 @@ hand-out-spec =
     (tie.spec
     readings-requires
     fields-of-requires
-    step-requires
+    gap-before-requires
+    advance-requires
     datagram-of-requires
-    add-t17
-    add-t20
-    add-t22
+    slice-aggregate-session-behind
+    session-behind-requires
     returns)

@@ -1,15 +1,29 @@
 -- `session::fresh` meets its contract. Assumes nothing.
-use Rattle.session.specs.Session.{freshOf}
+use mathlib.Core.Path.{ap, _∙_}
+use mathlib.Core.List.{[]}
+use Rattle.session.specs.Session.{sessionWith, freshOf}
+use Rattle.session.specs.declared.History.{History}
 use borrow.Author.Needs.{needs}
 use Rattle.session.proofs.fresh.Statement.{statement}
 use Rattle.session.proofs.fresh.Tie as tie
 
-no-axes-requires : tie.Need-no-axes-requires
-no-axes-requires c κs = search needs
+no-history-requires : tie.Need-no-history-requires
+no-history-requires c κs = search needs
+
+array-share-prefix-none : tie.Need-array-share-prefix-none
+array-share-prefix-none c = search needs
+
+slice-aggregate-session-with : tie.Need-slice-aggregate-session-with
+slice-aggregate-session-with c = search needs
+
+session-with-requires : tie.Need-session-with-requires
+session-with-requires c κs = search needs
 
 returns : tie.Need-returns
 unfolding freshOf
-returns c = rw (c .no-axes .ensures)
+returns c =
+    c .session-with .ensures
+    ∙ ap (λ (h : History). sessionWith (c .before .before .before .args .setup) h 0 0 []) (c .before .before .no-history .ensures)
 
 pub fresh-spec : {M : Type 1} → statement M
-fresh-spec = tie.close (tie.spec no-axes-requires returns)
+fresh-spec = tie.close (tie.spec no-history-requires array-share-prefix-none slice-aggregate-session-with session-with-requires returns)

@@ -1,0 +1,146 @@
+-- The total of an axis in the answer at a place: its own sightings up to that place alone decide it.
+-- Assumes nothing.
+use Prim.Native.Nat.{ℕ, zero, suc, _*_, _≤_, _<_, _^_}
+use mathlib.Core.Path.{_≡_, refl, sym, ap, _∙_}
+use mathlib.Core.Bool.{Bool, true, false, cond}
+use mathlib.Core.List.{List, [], _∷_, map}
+use native.Mathlib.Decide.{decLt}
+use native.Mathlib.Omega.{arith}
+use lib.IntN.{natAbs}
+use lib.ListN.{length, take, getD, length-map}
+use lib.Seq.{length-take-le}
+use Rattle.setup.specs.declared.Setup.{Setup}
+use Rattle.wire.specs.Fields.{fieldsOf}
+use Rattle.motion.specs.Totals.{Sighting, keptStep, keeps, axisAt, none, totalOf, totalAt, totalDouble, doubleAt, after}
+use Rattle.motion.specs.declared.Axis.{Axis}
+use Rattle.motion.proofs.Bounds.{keptAfter, after-next, after-not-kept, after-within, after-bound}
+use Rattle.motion.proofs.NineAxes.{each, step-at, total-at, double-at}
+use Rattle.scan.specs.Carry.{steps, carriedAfter}
+use Rattle.scan.proofs.CarryLaws.{told-at, told-beyond}
+use Rattle.session.specs.History.{noAxis, noAxes, noHistory, awaitsFirst, historyNext}
+use Rattle.session.specs.declared.History.{History}
+use Rattle.receiver.specs.declared.Datagram.{Datagram}
+use Rattle.receiver.specs.Feed.{datagramWith, historyAfter, tell, consumer, noDatagram}
+use Rattle.receiver.specs.Promises.{answersFor, sighting, sightings, shiftOf}
+
+-- by 01's rule for one axis, up to 2 ^ 30 datagrams
+pub after-ruled :
+    (kept : Bool) (ss : List Sighting) → length ss ≤ 2 ^ 30 → keptAfter kept noAxis ss ≡ cond kept (after noAxis ss) noAxis
+after-ruled true ss h = after-within noAxis ss 0 (omega arith) (omega arith)
+after-ruled false ss h = after-not-kept noAxis ss
+
+-- ---- sightings by their place
+
+take-map : {A B : Type 0} (f : A → B) (l : List A) (i : ℕ) → take i (map f l) ≡ map f (take i l)
+take-map f [] zero = refl
+take-map f [] (suc i) = refl
+take-map f (x ∷ l) zero = refl
+take-map {B = B} f (x ∷ l) (suc i) = ap (λ (m : List B). f x ∷ m) (take-map f l i)
+
+getD-map : {A B : Type 0} (f : A → B) (l : List A) (i : ℕ) (a : A) (b : B) → i < length l → getD (map f l) i b ≡ f (getD l i a)
+getD-map f [] i a b h = absurd (omega arith)
+getD-map f (x ∷ l) zero a b h = refl
+getD-map f (x ∷ l) (suc i) a b h = getD-map f l i a b (omega arith)
+
+module _ (u : Setup) (group axis : ℕ) where
+  pub sighting-at :
+      (ds : List (List ℕ)) (i : ℕ) → i < length ds
+      → getD (sightings u group axis ds) i none ≡ sighting u group axis (getD ds i [])
+  sighting-at ds i h = getD-map (sighting u group axis) ds i [] none h
+
+  pub sightings-length : (ds : List (List ℕ)) → length (sightings u group axis ds) ≡ length ds
+  sightings-length ds = length-map ds (sighting u group axis)
+
+  module _ (h : group < 3) (k : axis < 3) where
+    no-axis : axisAt noAxes group axis ≡ noAxis
+    no-axis =
+        each (λ (g : ℕ). axisAt noAxes g axis ≡ noAxis)
+        (each (λ (m : ℕ). axisAt noAxes 0 m ≡ noAxis) refl refl refl axis k)
+        (each (λ (m : ℕ). axisAt noAxes 1 m ≡ noAxis) refl refl refl axis k)
+        (each (λ (m : ℕ). axisAt noAxes 2 m ≡ noAxis) refl refl refl axis k)
+        group h
+
+    -- what is kept of the axis after datagrams
+    axis-carried :
+        (x : History) (ds : List (List ℕ))
+        → axisAt (carriedAfter (consumer u) x ds .axes) group axis
+        ≡ keptAfter (keeps u group) (axisAt (x .axes) group axis) (sightings u group axis ds)
+    unfolding carriedAfter historyAfter historyNext keptAfter
+    axis-carried x [] = refl
+    axis-carried x (d ∷ ds) =
+        axis-carried (steps (consumer u) x d) ds
+        ∙ ap (λ (a : Axis). keptAfter (keeps u group) a (sightings u group axis ds))
+        (step-at u (x .axes) (fieldsOf (u .identifier) d .readings) (fieldsOf (u .identifier) d .statuses) group axis h k)
+
+    -- the axis in the answer at a place
+    abbrev pub axisThen : List (List ℕ) → ℕ → Axis
+    axisThen ds i = keptAfter (keeps u group) noAxis (take (suc i) (sightings u group axis ds))
+
+    module _ (ds : List (List ℕ)) (i : ℕ) (l : i < length ds) where
+      before : History
+      before = carriedAfter (consumer u) noHistory (take i ds)
+
+      axis-then : axisAt (historyAfter u (awaitsFirst before) before (getD ds i []) .axes) group axis ≡ axisThen ds i
+      unfolding before historyAfter historyNext
+      axis-then =
+          let d = getD ds i [] in
+          let s = sightings u group axis ds in
+          step-at u (before .axes) (fieldsOf (u .identifier) d .readings) (fieldsOf (u .identifier) d .statuses) group axis h k
+          ∙ ap (λ (a : Axis). keptStep (keeps u group) a (sighting u group axis d))
+          (axis-carried noHistory (take i ds)
+          ∙ ap (λ (a : Axis). keptAfter (keeps u group) a (sightings u group axis (take i ds))) no-axis
+          ∙ ap (keptAfter (keeps u group) noAxis) (sym (take-map (sighting u group axis) ds i)))
+          ∙ ap (keptStep (keeps u group) (keptAfter (keeps u group) noAxis (take i s))) (sym (sighting-at ds i l))
+          ∙ sym (after-next (keeps u group) noAxis s i (omega (arith, sightings-length ds)))
+
+      pub total-then : totalAt (getD (answersFor u ds) i noDatagram .totals) group axis ≡ totalOf (axisThen ds i)
+      unfolding tell datagramWith before
+      total-then =
+          ap (λ (o : Datagram). totalAt (o .totals) group axis) (told-at (consumer u) noHistory ds i noDatagram l)
+          ∙ total-at (historyAfter u (awaitsFirst before) before (getD ds i []) .axes) group axis h k
+          ∙ ap totalOf axis-then
+
+      pub double-then : doubleAt (getD (answersFor u ds) i noDatagram .doubles) group axis ≡ totalDouble (axisThen ds i) (shiftOf u group)
+      unfolding tell datagramWith before
+      double-then =
+          ap (λ (o : Datagram). doubleAt (o .doubles) group axis) (told-at (consumer u) noHistory ds i noDatagram l)
+          ∙ double-at u (historyAfter u (awaitsFirst before) before (getD ds i []) .axes) group axis h k
+          ∙ ap (λ (a : Axis). totalDouble a (shiftOf u group)) axis-then
+
+      -- a total grows by at most 2 ^ 23 with a datagram
+      pub then-bound : natAbs (axisThen ds i .total) ≤ suc i * 8388608
+      then-bound =
+          let s = sightings u group axis ds in
+          omega (
+            arith,
+            after-bound (keeps u group) noAxis (take (suc i) s) 0 (omega arith),
+            length-take-le (suc i) s (omega (arith, sightings-length ds)),
+          )
+
+    -- lists that look alike to the axis give the same
+    pub independent :
+        (ds es : List (List ℕ)) → sightings u group axis ds ≡ sightings u group axis es → (i : ℕ)
+        → (totalAt (getD (answersFor u ds) i noDatagram .totals) group axis ≡ totalAt (getD (answersFor u es) i noDatagram .totals) group axis)
+        × (doubleAt (getD (answersFor u ds) i noDatagram .doubles) group axis ≡ doubleAt (getD (answersFor u es) i noDatagram .doubles) group axis)
+    independent ds es e i = go (decLt i (length ds))
+      where
+        long : length ds ≡ length es
+        long = sym (sightings-length ds) ∙ ap length e ∙ sightings-length es
+
+        same : axisThen ds i ≡ axisThen es i
+        same = ap (λ (s : List Sighting). keptAfter (keeps u group) noAxis (take (suc i) s)) e
+
+        go :
+            Dec (i < length ds)
+            → (totalAt (getD (answersFor u ds) i noDatagram .totals) group axis ≡ totalAt (getD (answersFor u es) i noDatagram .totals) group axis)
+            × (doubleAt (getD (answersFor u ds) i noDatagram .doubles) group axis ≡ doubleAt (getD (answersFor u es) i noDatagram .doubles) group axis)
+        go (yes l) = (
+          total-then ds i l ∙ ap totalOf same ∙ sym (total-then es i (omega (arith, long))),
+          double-then ds i l ∙ ap (λ (a : Axis). totalDouble a (shiftOf u group)) same ∙ sym (double-then es i (omega (arith, long))),
+        )
+        go (no n) =
+            let p = told-beyond (consumer u) noHistory ds i noDatagram (omega arith) in
+            let q = told-beyond (consumer u) noHistory es i noDatagram (omega (arith, long)) in (
+              ap (λ (o : Datagram). totalAt (o .totals) group axis) (p ∙ sym q),
+              ap (λ (o : Datagram). doubleAt (o .doubles) group axis) (p ∙ sym q),
+            )

@@ -1,0 +1,81 @@
+-- What a session keeps after datagrams, and so what comes back with the datagram at a place: its own fields, and the gap to the one before it.
+-- Assumes nothing.
+use Prim.Native.Nat.{ℕ, zero, suc, _+_, _-_, _<_}
+use mathlib.Core.Path.{_≡_, refl, sym, ap, _∙_, subst}
+use mathlib.Core.Bool.{Bool}
+use mathlib.Core.List.{List, [], _∷_}
+use native.Mathlib.Omega.{arith}
+use lib.Dec.{eqb}
+use lib.ListN.{length, take, getD}
+use lib.Seq.{length-take-le}
+use Rattle.setup.specs.Setup.{rulingOn}
+use Rattle.setup.specs.declared.Setup.{Setup}
+use Rattle.setup.specs.declared.Ruling.the-variants.{Accepted}
+use Rattle.wire.specs.Fields.{Contents, fieldsOf}
+use Rattle.motion.specs.Gaps.{gapAt}
+use Rattle.motion.proofs.AcceptedSetup.{accepted-rate}
+use Rattle.scan.specs.Carry.{steps, tells, carriedAfter}
+use Rattle.scan.proofs.CarryLaws.{told-at}
+use Rattle.receiver.specs.Feed.{datagramWith, historyAfter, tell, consumer, noDatagram}
+use Rattle.session.specs.History.{noHistory, awaitsFirst, historyNext}
+use Rattle.session.specs.declared.History.{History}
+use Rattle.receiver.specs.Promises.{answersFor, Contained}
+
+pred-suc : (n : ℕ) → suc n - 1 ≡ n
+pred-suc n = omega arith
+
+module _ (u : Setup) where
+  -- how many datagrams were handed out
+  pub carried-datagrams : (x : History) (ds : List (List ℕ)) → carriedAfter (consumer u) x ds .datagrams .0 ≡ x .datagrams .0 + length ds
+  unfolding carriedAfter historyAfter historyNext
+  carried-datagrams x [] = omega arith
+  carried-datagrams x (d ∷ ds) = omega (arith, carried-datagrams (steps (consumer u) x d) ds)
+
+  -- the counter of the last one
+  carried-previous :
+      (x : History) (ds : List (List ℕ)) (i : ℕ) → i < length ds
+      → carriedAfter (consumer u) x (take (suc i) ds) .previous ≡ fieldsOf (u .identifier) (getD ds i []) .counter
+  unfolding carriedAfter historyAfter historyNext
+  carried-previous x [] i h = absurd (omega arith)
+  carried-previous x (d ∷ ds) zero h = refl
+  carried-previous x (d ∷ ds) (suc i) h = carried-previous (steps (consumer u) x d) ds i (omega arith)
+
+  module _ (ok : rulingOn u ≡ Accepted) (es : List (List ℕ)) (i : ℕ) (l : i < length es) where
+    abbrev before : History
+    before = carriedAfter (consumer u) noHistory (take i es)
+
+    first-at : awaitsFirst before ≡ eqb i 0
+    first-at =
+        let n : carriedAfter (consumer u) noHistory (take i es) .datagrams .0 ≡ i =
+        omega (arith, carried-datagrams noHistory (take i es), length-take-le i es (omega arith))
+        in
+        ap (λ (n : ℕ). eqb n 0) n
+
+    abbrev now : Contents
+    now = fieldsOf (u .identifier) (getD es i [])
+
+    gap-at : gapAt (u .rate) (eqb i 0) (before .previous) (now .counter) ≡ gapAt (u .rate) (eqb i 0) (fieldsOf (u .identifier) (getD es (i - 1) []) .counter) (now .counter)
+    unfolding gapAt
+    gap-at = by i l
+      where
+        by :
+            (n : ℕ) → n < length es
+            → gapAt (u .rate) (eqb n 0) (carriedAfter (consumer u) noHistory (take n es) .previous) (now .counter)
+            ≡ gapAt (u .rate) (eqb n 0) (fieldsOf (u .identifier) (getD es (n - 1) []) .counter) (now .counter)
+        by zero h = refl
+        by (suc n) h =
+            ap (λ (k : ℕ). gapAt (u .rate) (eqb (suc n) 0) k (now .counter)) (carried-previous noHistory es n (omega arith))
+            ∙ ap (λ (m : ℕ). gapAt (u .rate) (eqb (suc n) 0) (fieldsOf (u .identifier) (getD es m []) .counter) (now .counter)) (sym (pred-suc n))
+
+    gap-told : tells (consumer u) before (getD es i []) .gap ≡ gapAt (u .rate) (eqb i 0) (fieldsOf (u .identifier) (getD es (i - 1) []) .counter) (now .counter)
+    unfolding tell datagramWith
+    gap-told =
+        ap (λ (r : ℕ). gapAt r (awaitsFirst before) (before .previous) (now .counter)) (accepted-rate u ok)
+        ∙ ap (λ (b : Bool). gapAt (u .rate) b (before .previous) (now .counter)) first-at
+        ∙ gap-at
+
+    contained : Contained u es i (tells (consumer u) before (getD es i []))
+    contained = record { readings = unfold tell datagramWith fieldsOf in refl; fields = unfold tell datagramWith in refl; flags = unfold tell datagramWith in refl; gap = gap-told }
+
+    pub contained-at : Contained u es i (getD (answersFor u es) i noDatagram)
+    contained-at = subst (Contained u es i) (sym (told-at (consumer u) noHistory es i noDatagram l)) contained

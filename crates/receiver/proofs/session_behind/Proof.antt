@@ -1,0 +1,29 @@
+-- `receiver::session_behind` meets its contract. Assumes nothing.
+use mathlib.Core.Path.{ap, _∙_}
+use mathlib.Core.List.{List}
+use Prim.Native.Nat.{ℕ, _+_}
+use lib.Seq.{take-all}
+use Rattle.session.specs.Session.{sessionWith}
+use borrow.Author.Needs.{needs}
+use Rattle.receiver.proofs.session_behind.Statement.{statement}
+use Rattle.receiver.proofs.session_behind.Tie as tie
+
+add-session-with : tie.Need-add-session-with
+add-session-with c = search needs
+
+add-session-with-2 : tie.Need-add-session-with-2
+add-session-with-2 c = search needs
+
+session-with-requires : tie.Need-session-with-requires
+session-with-requires c κs = search needs
+
+returns : tie.Need-returns
+returns c =
+    let s = c .before .before .before .before .before in
+    let a = s .args in
+    c .session-with .ensures
+    ∙ ap (sessionWith (a .session .setup) (a .history) (a .session .passed + a .passed) (a .session .fed + a .taken)) (take-all 64 (a .undecided .now) (s .pre .2))
+
+pub session-behind-spec : {M : Type 1} → statement M
+session-behind-spec =
+    tie.close (tie.spec add-session-with add-session-with-2 session-with-requires returns)

@@ -1,0 +1,13 @@
+-- `session::no_history` meets its contract. Assumes nothing.
+use borrow.Author.Needs.{needs}
+use Rattle.session.proofs.no_history.Statement.{statement}
+use Rattle.session.proofs.no_history.Tie as tie
+
+no-axes-requires : tie.Need-no-axes-requires
+no-axes-requires c κs = search needs
+
+returns : tie.Need-returns
+returns c = rw (c .no-axes .ensures)
+
+pub no-history-spec : {M : Type 1} → statement M
+no-history-spec = tie.close (tie.spec no-axes-requires returns)

@@ -1,0 +1,49 @@
+-- What a session keeps of the datagrams handed out, and what one more does to it (01, Status, doubles, gaps; Totals).
+use Prim.Native.Nat.{ℕ, _+_, _-_, _^_}
+use mathlib.Core.Bool.{Bool, false, cond}
+use mathlib.Core.List.{List}
+use lib.Dec.{eqb, leb}
+use lib.IntN.{ℤ, pos}
+use Rattle.setup.specs.declared.Setup.{Setup}
+use Rattle.motion.specs.Gaps.{datagrams, gapBetween}
+use Rattle.motion.specs.Totals.{stepped}
+use Rattle.motion.specs.declared.Axis.{Axis}
+use Rattle.motion.specs.declared.GroupAxes.{GroupAxes}
+use Rattle.motion.specs.declared.Axes.{Axes}
+use Rattle.motion.specs.declared.Gap.{Gap}
+use Rattle.session.specs.declared.History.{History}
+
+-- an axis to which no fit datagram came
+abbrev pub noAxis : Axis
+noAxis = record { begun = false; last = pos 0; total = pos 0 }
+
+abbrev pub noGroup : GroupAxes
+noGroup = record { x = noAxis; y = noAxis; z = noAxis }
+
+abbrev pub noAxes : Axes
+noAxes = record { gyro = noGroup; accelerometer = noGroup; inclinometer = noGroup }
+
+-- a fresh session's: no datagram was handed out
+abbrev pub noHistory : History
+noHistory = record { datagrams = datagrams 0; previous = 0; axes = noAxes }
+
+-- the first datagram of a session is the one before which none was handed out
+abbrev pub awaitsFirst : History → Bool
+awaitsFirst h = eqb (h .datagrams .0) 0
+
+-- the gap in front of the next datagram, of its counter
+abbrev pub gapNext : Setup → History → ℕ → Gap
+gapNext u h counter = gapBetween u (awaitsFirst h) (h .previous) counter
+
+-- behind the next datagram, of its readings, its groups' statuses and its counter
+unfoldable pub historyNext : Setup → History → List (List ℤ) → List ℕ → ℕ → History
+historyNext u h readings statuses counter =
+    record { datagrams = datagrams (h .datagrams .0 + 1); previous = counter; axes = stepped u (h .axes) readings statuses }
+
+-- the same for every history: one with the greatest count of 64 bits, which no session has, stays as it is
+abbrev pub greatestCount : ℕ
+greatestCount = 2 ^ 64 - 1
+
+unfoldable pub advanced : Setup → History → List (List ℤ) → List ℕ → ℕ → History
+advanced u h readings statuses counter =
+    cond (leb greatestCount (h .datagrams .0)) h (historyNext u h readings statuses counter)
