@@ -1,8 +1,8 @@
-// Where the first datagram of a setup lies in bytes (01, The scan).
-use setup::Setup;
+// Where the first datagram of a sensor lies in bytes (01, The scan).
+use setup::Sensor;
 ghost use mathlib.Core.Path.{_≡_};
 ghost use Rattle.scan.specs.Scan.{first};
-ghost use Rattle.search.specs.Search.{verdictOf, placeOf};
+ghost use Rattle.search.specs.Search.{verdictIn, placeOf};
 
 // Where a scan that stops at its first datagram ends: where a complete one begins and how many bytes it has,
 // or from where on the bytes are undecided.
@@ -12,11 +12,13 @@ pub enum Place {
 }
 
 // The scan of bytes up to their first datagram (01, The scan).
-pub fn find(setup: Setup, bytes: &[u8]) -> Place
-    ensures { λ r. ⌜ r ≡ placeOf (first (verdictOf setup) (now (bytes .entry))) ⌝ }
+pub fn find(sensor: Sensor, bytes: &[u8]) -> Place
+    ensures { λ r. ⌜ r ≡ placeOf (first (verdictIn sensor) (now (bytes .entry))) ⌝ }
 {
-    let identifier = setup.identifier;
-    let size = setup::length_of(setup);
+    let identifier = sensor.identifier;
+    let row = sensor.row;
+    let terminated = sensor.terminated;
+    let size = wire::length_of(row, terminated);
     let mut i = 0;
     while i < bytes.len() {
         if bytes[i] == identifier {
@@ -24,7 +26,7 @@ pub fn find(setup: Setup, bytes: &[u8]) -> Place
                 return Place::Undecided(i);
             }
             let end = i + size;
-            if wire::is_acceptable(setup, &bytes[i..end]) {
+            if wire::is_acceptable(identifier, row, terminated, &bytes[i..end]) {
                 return Place::Complete(i, size);
             }
         }
