@@ -1,17 +1,16 @@
 -- Laws of datagrams as lists of bytes: elements below 256, and an acceptable content.
 use Prim.Native.Nat.{ℕ}
 use mathlib.Core.Path.{_≡_, refl}
-use mathlib.Core.Bool.{Bool, true}
+use mathlib.Core.Bool.{true}
 use mathlib.Core.List.{List, [], _∷_}
 use borrow.Author.Tests.{ltb-true, lt-ltb}
 use Rattle.integers.specs.Bytes.{AllBytes}
 use Rattle.integers.proofs.Bytes.{bytes-nil, bytes-cons, bytes-tail}
-use Rattle.integers.proofs.Booleans.{and-split, and-true}
-use Rattle.setup.specs.Layout.{layoutOf}
+use Rattle.integers.proofs.Ranges.{and-split}
 use Rattle.setup.specs.declared.Setup.{Setup}
-use Rattle.setup.specs.declared.Row.{Row}
-use Rattle.wire.specs.Acceptable.{acceptableIn, acceptable}
-use Rattle.search.specs.Search.{areBytes, isDatagram, isDatagramIn}
+use Rattle.wire.specs.Acceptable.{acceptable}
+use Rattle.scan.proofs.CallsLaws.{and-true}
+use Rattle.search.specs.Search.{areBytes, isDatagram}
 
 -- the test of bytes, both ways
 pub areBytes-all : (s : List ℕ) → areBytes s ≡ true → AllBytes s
@@ -36,13 +35,3 @@ module _ (u : Setup) (d : List ℕ) where
   pub bytes-datagram : AllBytes d → isDatagram u d ≡ acceptable u d
   unfolding isDatagram
   bytes-datagram h = rw (all-areBytes d h)
-
--- the same by the row
-module _ (i : ℕ) (r : Row) (t : Bool) (d : List ℕ) where
-  pub row-datagram-parts : isDatagramIn i r t d ≡ true → AllBytes d × (acceptableIn i (layoutOf r t) d ≡ true)
-  unfolding isDatagramIn
-  row-datagram-parts e = let k = and-split (areBytes d) (acceptableIn i (layoutOf r t) d) e in (areBytes-all d (k .0), k .1)
-
-  pub row-bytes-datagram : AllBytes d → isDatagramIn i r t d ≡ acceptableIn i (layoutOf r t) d
-  unfolding isDatagramIn
-  row-bytes-datagram h = rw (all-areBytes d h)

@@ -4,14 +4,13 @@ use mathlib.Core.Bool.{Bool, true, _&&_}
 use mathlib.Core.List.{List, [], _∷_}
 use lib.Dec.{ltb}
 use lib.ListN.{length}
-use Rattle.setup.specs.Layout.{layoutOf, lengthIn}
 use Rattle.setup.specs.Setup.{lengthOf}
-use Rattle.setup.specs.Sensor.{sensorOf}
 use Rattle.setup.specs.declared.Setup.{Setup}
-use Rattle.setup.specs.declared.Row.{Row}
+use Rattle.setup.specs.Layout.{layoutOf, lengthIn}
 use Rattle.setup.specs.declared.Sensor.{Sensor}
 use Rattle.wire.specs.Acceptable.{acceptableIn, acceptable}
 use Rattle.scan.specs.Scan.{Verdict, First, ends, finds}
+use Rattle.scan.specs.Front.{front}
 use Rattle.scan.specs.Rules.{Limits, Rules, verdict}
 use Rattle.scan.specs.OneLength.{oneCandidate, heldRule}
 use Rattle.search.specs.declared.Place.{Place}
@@ -31,11 +30,8 @@ unfoldable pub isDatagram : Setup → List ℕ → Bool
 isDatagram u d = areBytes d && acceptable u d
 
 -- the most bytes of a piece, which 11 refuses beyond, and of a session (10 and 12)
-abbrev pub limitsIn : Row → Limits
-limitsIn r = record { piece = 4096; tooLong = 11; session = 2 ^ 34 }
-
 abbrev pub limitsOf : Setup → Limits
-limitsOf u = limitsIn (sensorOf u .row)
+limitsOf u = record { piece = 4096; tooLong = 11; session = 2 ^ 34 }
 
 -- the rules of a setup, by which its sessions scan
 abbrev pub rulesOf : Setup → Rules
@@ -52,25 +48,15 @@ rulesOf u =
 abbrev pub verdictOf : Setup → List ℕ → Verdict
 verdictOf u = verdict (rulesOf u)
 
--- the same by the identifier, the row and the ending of a sensor, which an accepted setup describes
-unfoldable pub sizeIn : Row → Bool → ℕ
-sizeIn r ending = lengthIn (layoutOf r ending)
+-- the same by what an accepted setup says of its sensor: an acceptable datagram, its length, what is decided at the front
+unfoldable pub isDatagramIn : Sensor → List ℕ → Bool
+isDatagramIn s d = areBytes d && acceptableIn (s .identifier) (layoutOf (s .row) (s .terminated)) d
 
-unfoldable pub isDatagramIn : ℕ → Row → Bool → List ℕ → Bool
-isDatagramIn identifier r ending d = areBytes d && acceptableIn identifier (layoutOf r ending) d
-
-abbrev pub rulesIn : ℕ → Row → Bool → Rules
-rulesIn identifier r ending =
-    record {
-      candidate = oneCandidate identifier (sizeIn r ending);
-      acceptable = isDatagramIn identifier r ending;
-      mayHold = heldRule identifier (sizeIn r ending);
-      greatest = sizeIn r ending;
-      limits = limitsIn r;
-    }
+abbrev pub sizeIn : Sensor → ℕ
+sizeIn s = lengthIn (layoutOf (s .row) (s .terminated))
 
 abbrev pub verdictIn : Sensor → List ℕ → Verdict
-verdictIn s = verdict (rulesIn (s .identifier) (s .row) (s .terminated))
+verdictIn s = front (oneCandidate (s .identifier) (sizeIn s)) (isDatagramIn s)
 
 -- where the scan up to its first datagram stops: where that begins and how long it is, or from where on the bytes are undecided
 abbrev pub placeOf : First → Place
