@@ -6,13 +6,14 @@ use native.Mathlib.Omega.{arith}
 use lib.ListN.{length, take, drop, length-append, length-drop}
 use lib.Seq.{length-take-le, take-all}
 use Rattle.setup.proofs.Refusals.{accepted-length}
-use Rattle.scan.specs.Scan.{first, later}
-use Rattle.search.specs.Search.{verdictOf, placeOf}
+use Rattle.scan.specs.Scan.{Verdict, first, later}
+use Rattle.search.specs.Search.{verdictOf, verdictIn, placeOf}
 use Rattle.search.proofs.Places.{to-end, part-of, IsComplete, IsUndecided, complete-length, found-complete, found-undecided}
 use Rattle.session.specs.Session.{heldBytes}
 use Rattle.receiver.specs.CallParts.{replyAtOnce}
 use Rattle.receiver.proofs.Joining.{complete-joined, complete-taken, undecided-joined}
 use Rattle.session.proofs.Padding.{padded-front}
+use Rattle.receiver.proofs.BySetup.{sensor-verdict}
 use Rattle.receiver.proofs.CallParts.{reply-found, reply-held, room-less}
 use borrow.Author.Needs.{needs}
 use Rattle.receiver.proofs.scan_held.Statement.{statement}
@@ -94,7 +95,8 @@ complete-arm c =
     let s = l .before .before .before .before in
     let u = s .args .session .setup in
     found-complete u (s .pre .0) (front l) (place c)
-    (ap (λ (l : List ℕ). placeOf (first (verdictOf u) l)) (sym (window-is (c .before .before .before .before .before)))
+    (ap (λ (v : List ℕ → Verdict). placeOf (first v (front l))) (sym (sensor-verdict u (s .pre .0) (s .args .sensor) (s .pre .4)))
+    ∙ ap (λ (l : List ℕ). placeOf (first (verdictIn (s .args .sensor)) l)) (sym (window-is (c .before .before .before .before .before)))
     ∙ sym (c .before .before .before .find .ensures)
     ∙ c .before .at .given .1)
 
@@ -108,7 +110,8 @@ undecided-arm c =
     let s = l .before .before .before .before in
     let u = s .args .session .setup in
     found-undecided u (s .pre .0) (front l) (c .before .at2 .given .0 .0)
-    (ap (λ (l : List ℕ). placeOf (first (verdictOf u) l)) (sym (window-is (c .before .before .before .before .before)))
+    (ap (λ (v : List ℕ → Verdict). placeOf (first v (front l))) (sym (sensor-verdict u (s .pre .0) (s .args .sensor) (s .pre .4)))
+    ∙ ap (λ (l : List ℕ). placeOf (first (verdictIn (s .args .sensor)) l)) (sym (window-is (c .before .before .before .before .before)))
     ∙ sym (c .before .before .before .find .ensures)
     ∙ c .before .at2 .given .1)
 

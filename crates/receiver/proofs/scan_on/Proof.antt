@@ -5,9 +5,10 @@ use mathlib.Core.List.{List}
 use native.Mathlib.Omega.{arith}
 use lib.ListN.{length, take, drop, length-drop}
 use Rattle.setup.proofs.Refusals.{accepted-length}
-use Rattle.scan.specs.Scan.{first, later}
-use Rattle.search.specs.Search.{verdictOf, placeOf}
+use Rattle.scan.specs.Scan.{Verdict, first, later}
+use Rattle.search.specs.Search.{verdictOf, verdictIn, placeOf}
 use Rattle.search.proofs.Places.{to-end, part-of, IsComplete, IsUndecided, found-complete, found-undecided}
+use Rattle.receiver.proofs.BySetup.{sensor-verdict}
 use Rattle.receiver.proofs.CallParts.{reply-found, reply-held, room-less}
 use borrow.Author.Needs.{needs}
 use Rattle.receiver.proofs.scan_on.Statement.{statement}
@@ -31,7 +32,8 @@ complete-arm c =
     let u = s .args .session .setup in
     let p = s .args .piece .now in
     found-complete u (s .pre .0) (drop (s .args .from) p) (place c)
-    (ap (λ (l : List ℕ). placeOf (first (verdictOf u) l)) (sym (to-end p (s .args .from)))
+    (ap (λ (v : List ℕ → Verdict). placeOf (first v (drop (s .args .from) p))) (sym (sensor-verdict u (s .pre .0) (s .args .sensor) (s .pre .3)))
+    ∙ ap (λ (l : List ℕ). placeOf (first (verdictIn (s .args .sensor)) l)) (sym (to-end p (s .args .from)))
     ∙ sym (c .before .before .before .find .ensures)
     ∙ c .before .at .given .1)
 
@@ -44,7 +46,8 @@ undecided-arm c =
     let u = s .args .session .setup in
     let p = s .args .piece .now in
     found-undecided u (s .pre .0) (drop (s .args .from) p) (c .before .at2 .given .0 .0)
-    (ap (λ (l : List ℕ). placeOf (first (verdictOf u) l)) (sym (to-end p (s .args .from)))
+    (ap (λ (v : List ℕ → Verdict). placeOf (first v (drop (s .args .from) p))) (sym (sensor-verdict u (s .pre .0) (s .args .sensor) (s .pre .3)))
+    ∙ ap (λ (l : List ℕ). placeOf (first (verdictIn (s .args .sensor)) l)) (sym (to-end p (s .args .from)))
     ∙ sym (c .before .before .before .find .ensures)
     ∙ c .before .at2 .given .1)
 
