@@ -70,10 +70,11 @@ module _ (u : Setup) (group axis : ℕ) where
     axis-next :
         (first : Bool) (x : History) (d : List ℕ)
         → axisAt (historyAfter (sensorOf u) first x d .axes) group axis ≡ keptStep (keeps u group) (axisAt (x .axes) group axis) (sighting u group axis d)
+    unfolding historyNext
     axis-next first x d =
         let c = fieldsOf (u .identifier) d in
         ap (λ (y : History). axisAt (y .axes) group axis) (after-datagram u ok first x d)
-        ∙ (unfold historyNext in step-at (groupsKept u) (x .axes) (c .readings) (c .statuses) group axis h k)
+        ∙ step-at (groupsKept u) (x .axes) (c .readings) (c .statuses) group axis h k
         ∙ ap (λ (b : Bool). keptStep b (axisAt (x .axes) group axis) (sighting u group axis d)) (kept-at u group h)
 
     -- what is kept of the axis after datagrams

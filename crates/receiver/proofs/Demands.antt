@@ -16,7 +16,7 @@ use Rattle.setup.specs.declared.Setup.{Setup}
 use Rattle.setup.specs.declared.Ruling.the-variants.{Accepted}
 use Rattle.wire.specs.Fields.{fieldsOf}
 use Rattle.wire.proofs.FieldRanges.{fields-fit}
-use Rattle.motion.specs.Doubles.{negative, plusZero, quotient, knownShift, unitOf, doublesIn, valuesAt, valuesFor}
+use Rattle.motion.specs.Doubles.{negative, plusZero, unitOf, doublesIn, shiftIn, groupValues, valuesFor}
 use Rattle.motion.specs.Totals as totals
 use Rattle.motion.specs.Totals.{Sighting, keeps, none, totalOf, totalAt, totalDouble, doubleAt, fitReadings, fitBefore, readingOf}
 use Rattle.motion.specs.declared.Total.{Total}
@@ -28,7 +28,7 @@ use Rattle.scan.specs.Scan.{scan}
 use Rattle.scan.specs.Calls as calls
 use Rattle.scan.specs.Calls.{Report, skip}
 use Rattle.scan.specs.Stream.{joined, Among, Bare, NoTen}
-use Rattle.scan.specs.Carry.{Delivered}
+use Rattle.scan.specs.Carry.{carriedAfter, Delivered}
 use Rattle.scan.proofs.AmongLaws.{scan-among, among-scan}
 use Rattle.scan.proofs.CarryLaws.{told-at, length-told, among-each, joined-least}
 use Rattle.scan.proofs.RunLaws.{ready, always-run, always-delivered, run-one, fresh-safe}
@@ -44,7 +44,7 @@ use Rattle.session.specs.Session.{freshOf, opening, isSound, heldBytes}
 use Rattle.session.specs.declared.Session.{Session}
 use Rattle.session.specs.declared.Opened.{Opened}
 use Rattle.receiver.specs.declared.Datagram.{Datagram}
-use Rattle.receiver.specs.Feed.{consumer, SessionState, sessionOf, tell, datagramWith, noDatagram, Calls}
+use Rattle.receiver.specs.Feed.{consumer, SessionState, sessionOf, datagramWith, noDatagram, Calls}
 use Rattle.receiver.specs.OneLength.{OneLength}
 use Rattle.receiver.specs.Promises.{streamOf, FedInTurn, answersFor, sighting, sightings, shiftOf, TotalExact, EveryCall, Contained, Exact, Demand2, Stands, Carry, Demand3}
 use Rattle.session.proofs.Opening.{fresh-sound, opened, refused-opening, zeros-unsound}

@@ -29,7 +29,7 @@ use Rattle.receiver.proofs.Refinement.{history-parts, parts-history}
 
 module _ (u : Setup) (ok : rulingOn u ≡ Accepted) where
   start-right : historyRight u 0 noHistory ≡ true
-  start-right = parts-history u 0 noHistory (omega (arith, mul-zero (lengthOf u))) (none-right u)
+  start-right = parts-history u 0 noHistory (omega (arith, mul-zero (lengthOf u))) (none-right (groupsKept u))
 
   next-right :
       (n : ℕ) (x : History) (first : Bool) (d : List ℕ) → isDatagram u d ≡ true → historyRight u n x ≡ true

@@ -238,13 +238,7 @@ fn session_behind(
 }
 
 // The call ends with a datagram d, so many bytes having been passed over before it: it moves the history on and comes back.
-fn hand_out(
-    session: Session,
-    sensor: Sensor,
-    passed: usize,
-    taken: usize,
-    d: &[u8],
-) -> Reply
+fn hand_out(session: Session, sensor: Sensor, passed: usize, taken: usize, d: &[u8]) -> Reply
     requires { ⌜ Room session passed × Room session taken × (sensor ≡ sensorOf (session .setup)) ⌝ }
     ensures { λ r. ⌜ r ≡ replyAfter session taken (finds passed (now (d .entry)) []) ⌝ }
 {

@@ -26,13 +26,13 @@ facts s = sound-facts (s .args .session) (allowed s .sound)
 
 scan-on-requires : tie.Need-scan-on-requires
 scan-on-requires c κs =
-    let s = c .before .before .before in
+    let s = c .before .before in
     let a = s .args in
     (facts s .accepted, omega arith, room-of (a .session) (facts s) (0 + length (a .piece .now)) (omega (arith, allowed s .piece)), s .pre .1)
 
 returns : tie.Need-returns
 returns c =
-    let s = c .before .before .before .before in
+    let s = c .before .before .before in
     let a = s .args in
     let v = verdictOf (a .session .setup) in
     let p = a .piece .now in
