@@ -12,22 +12,22 @@ use Rattle.setup.specs.Setup.{lengthOf}
 use Rattle.setup.specs.declared.Setup.{Setup}
 use Rattle.setup.proofs.Refusals.{accepted-length}
 use Rattle.wire.specs.Fields.{fieldsOf}
-use Rattle.motion.specs.Totals.{totalsOf}
-use Rattle.text.specs.TextLine.{outside}
+use Rattle.text.specs.TextLine.{outside, longestLine}
 use Rattle.scan.specs.Scan.{Scanned, First, ends, finds, first, passing, handing, holding, scan}
 use Rattle.scan.specs.Carry.{steps, carriedAfter}
 use Rattle.search.specs.Search.{limitsOf, verdictOf, placeOf}
 use Rattle.search.proofs.Places.{IsComplete, complete-length, found-complete, found-undecided}
 use Rattle.session.specs.Session.{sessionWith, heldBytes}
-use Rattle.session.specs.History.{historyNext}
+use Rattle.session.specs.History.{awaitsFirst, historyNext}
 use Rattle.session.specs.declared.History.{History}
 use Rattle.session.specs.declared.Session.{Session}
 use Rattle.session.proofs.Soundness.{Facts, sound-facts}
 use Rattle.session.proofs.PieceRulings.{Admitted, admitted}
-use Rattle.receiver.specs.Feed.{historyAfter, tell, datagramWith, consumer, stateOf, feedOf}
+use Rattle.receiver.specs.Feed.{historyAfter, datagramWith, consumer, stateOf, feedOf}
 use Rattle.receiver.specs.CallParts.{replyAfter, replyAtOnce}
 use Rattle.receiver.specs.declared.Answer.the-variants.{Datagram as HandedOut, Waiting}
 use Rattle.receiver.specs.declared.Reply.{Reply}
+use Rattle.receiver.proofs.BySetup.{told-datagram}
 use Rattle.receiver.proofs.Refinement.{count-held}
 use Rattle.receiver.proofs.CallParts.{count-less}
 use Rattle.receiver.proofs.OneLength.{fed-at-once}
@@ -35,7 +35,7 @@ use Rattle.lines.specs.declared.Received.the-variants.{Lines}
 use Rattle.lines.specs.declared.Batch.{Batch}
 use Rattle.lines.specs.Lines.{lineOf, foundIn, enough}
 use Rattle.lines.specs.PieceParts.{startOf, nextLine, textOf, batchBy, Ready, scanAt, Answered, Permitted}
-use Rattle.lines.proofs.NextLines.{nextHistory, right-next, line-inside, line-short, text-none, text-more}
+use Rattle.lines.proofs.NextLines.{right-next, line-inside, line-short, text-none, text-more}
 use Rattle.lines.proofs.Placing.{sets-append}
 use Rattle.lines.proofs.LoopInvariant.{scan-complete, scan-open, few-of}
 
@@ -126,8 +126,8 @@ module _ (s : Session) (p : List ℕ) (room : ℕ) (a : Permitted s (length p) r
         scan-complete setup (facts .accepted) joint (H .place) (H .complete)
         ∙ ap (λ (v : List ℕ). passing (H .place) (handing datagram (scan (verdictOf setup) v))) rest
 
-    short : length line ≤ 307
-    short = line-short setup kept datagram (facts .axes) (H .complete .good) few
+    short : length line ≤ longestLine
+    short = line-short setup (facts .accepted) kept datagram (facts .axes) (H .complete .good) few
 
     -- its line is the next one, and nothing refuses it
     pub first-line : lineOf setup (turn .session .history .datagrams .0) (turn .datagram) ≡ line
@@ -136,17 +136,19 @@ module _ (s : Session) (p : List ℕ) (room : ℕ) (a : Permitted s (length p) r
 
     pub first-inside :
         outside (turn .session .history .datagrams .0) (turn .datagram .gyro ∷ turn .datagram .accelerometer ∷ turn .datagram .inclinometer ∷ []) (turn .datagram .totals) ≡ false
-    unfolding replyAfter historyAfter historyNext tell datagramWith fieldsOf
+    unfolding replyAfter historyAfter historyNext datagramWith fieldsOf
     first-inside =
-        ap (λ (n : ℕ). outside n (fieldsOf (setup .identifier) datagram .readings) (totalsOf (nextHistory setup kept datagram .axes))) (add-one (s .history .datagrams .0))
-        ∙ line-inside setup kept datagram (facts .axes) (H .complete .good) few
+        (λ i.
+        let o = told-datagram setup (facts .accepted) (awaitsFirst kept) kept datagram i in
+        outside (add-one (s .history .datagrams .0) i) (o .gyro ∷ o .accelerometer ∷ o .inclinometer ∷ []) (o .totals))
+        ∙ line-inside setup (facts .accepted) kept datagram (facts .axes) (H .complete .good) few
 
-    pub first-short : length (lineOf setup (turn .session .history .datagrams .0) (turn .datagram)) ≤ 307
-    first-short = subst (λ (t : List ℕ). length t ≤ 307) (sym first-line) short
+    pub first-short : length (lineOf setup (turn .session .history .datagrams .0) (turn .datagram)) ≤ longestLine
+    first-short = subst (λ (t : List ℕ). length t ≤ longestLine) (sym first-line) short
 
     -- the piece can be gone through behind it
     pub first-ready :
-        (used width : ℕ) → used ≤ 307 → enough ≤ width
+        (used width : ℕ) → used ≤ longestLine → enough ≤ width
         → Ready (turn .session .setup) (startOf (turn .session) (turn .taken) used) (length p) width
     unfolding replyAfter historyAfter historyNext
     first-ready used width l w =
@@ -154,7 +156,7 @@ module _ (s : Session) (p : List ℕ) (room : ℕ) (a : Permitted s (length p) r
           accepted = facts .accepted;
           within = taken-within;
           most = allowed .piece;
-          axes = right-next setup kept datagram (facts .axes) (H .complete .good);
+          axes = right-next setup (facts .accepted) kept datagram (facts .axes) (H .complete .good);
           few =
               omega (
                 arith,

@@ -7,7 +7,8 @@ use native.Mathlib.Nat.{add-zero, mul-add, mul-one, mul-le-mul-right}
 use native.Mathlib.Omega.{arith}
 use lib.ListN.{length, take, drop, length-append, length-drop, drop-of-length-le}
 use lib.Seq.{sets, length-sets, length-take-le, take-all, drop-drop}
-use Rattle.session.specs.History.{historyNext}
+use Rattle.session.specs.History.{awaitsFirst, historyNext}
+use Rattle.session.specs.declared.History.{History}
 use Rattle.session.specs.Session.{sessionWith}
 use Rattle.setup.specs.Setup.{rulingOn, lengthOf}
 use Rattle.setup.specs.declared.Setup.{Setup}
@@ -23,7 +24,8 @@ use Rattle.search.proofs.Places.{to-end, IsComplete, IsUndecided, complete-leng
 use Rattle.session.specs.declared.Session.{Session}
 use Rattle.session.proofs.Soundness.{sound-facts}
 use Rattle.session.proofs.PieceRulings.{admitted}
-use Rattle.receiver.specs.Feed.{historyAfter, consumer, sessionOf}
+use Rattle.receiver.specs.Feed.{consumer, sessionOf}
+use Rattle.receiver.proofs.BySetup.{after-datagram}
 use Rattle.lines.specs.declared.Received.the-variants.{Lines}
 use Rattle.lines.specs.declared.Progress.{Progress}
 use Rattle.lines.specs.PieceParts.{startOf, nextLine, textOf, nextOf, stopped, behindBy, batchBy, Ready, scanAt, Finished, Answered, Permitted}
@@ -63,18 +65,18 @@ ready-less u x end less room a l R =
 module _ (u : Setup) (x : Progress) (end room : ℕ) (R : Ready u x end room) (n : ℕ) (d : List ℕ) (good : isDatagram u d ≡ true) where
   -- behind a datagram all is ready again
   pub ready-next : length d ≡ lengthOf u → x .at + (n + lengthOf u) ≤ end → Ready u (nextOf u x n d) end room
-  unfolding nextOf historyAfter historyNext
+  unfolding nextOf historyNext
   ready-next long fits =
       let k = x .history in
       let L = accepted-length u (R .accepted) in
       let few = few-of u (R .accepted) (x .history .datagrams .0) (end - x .at) (R .few) in
-      let short = line-short u k d (R .axes) good (omega arith) in
+      let short = line-short u (R .accepted) k d (R .axes) good (omega arith) in
       record {
         accepted = R .accepted;
         within = omega (arith, long, fits);
         most = R .most;
-        axes = right-next u k d (R .axes) good;
-        few = omega (arith, R .few, mul-add (lengthOf u) (x .history .datagrams .0) 1, mul-one (lengthOf u), long, fits);
+        axes = right-next u (R .accepted) k d (R .axes) good;
+        few = omega (arith, R .few, ap (λ (h : History). lengthOf u * h .datagrams .0) (after-datagram u (R .accepted) (awaitsFirst k) k d), mul-add (lengthOf u) (x .history .datagrams .0) 1, mul-one (lengthOf u), long, fits);
         passed = omega (arith, R .passed, long, fits);
         roomy = omega (arith, R .roomy, short, long, fits, L .0);
       }

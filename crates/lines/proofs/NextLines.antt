@@ -12,28 +12,31 @@ use lib.ListN.{length, getD}
 use Rattle.integers.specs.Ranges.{within}
 use Rattle.integers.proofs.Folding.{InRange}
 use Rattle.integers.proofs.Ranges.{le-within, range-inReading}
+use Rattle.setup.specs.Setup.{rulingOn}
 use Rattle.setup.specs.declared.Setup.{Setup}
+use Rattle.setup.specs.declared.Ruling.the-variants.{Accepted}
 use Rattle.wire.specs.Fields.{Contents, fieldsOf}
 use Rattle.wire.proofs.FieldRanges.{Fitting, fields-fit}
-use Rattle.motion.specs.Gaps.{datagrams, stepAt, elapsed, missedAfter, gapAt, gapBetween, knownRate}
-use Rattle.motion.specs.Totals.{axisAt, totalsOf}
+use Rattle.motion.specs.Gaps.{datagrams, stepAt, elapsed, missedAfter, gapAt}
+use Rattle.motion.specs.Totals.{groupsKept, axisAt, totalsOf}
 use Rattle.motion.specs.declared.Axes.{Axes}
 use Rattle.motion.specs.declared.Gap.{Gap}
 use Rattle.motion.specs.declared.Gap.the-variants.{Missed, OffStep}
 use Rattle.motion.proofs.Gaps.{elapsed-range}
-use Rattle.text.specs.TextLine.{lineText, rowFits, readingsFit, totalsWithin, outside}
-use Rattle.text.proofs.Longest.{MissedFits, longest}
+use Rattle.text.specs.TextLine.{shownBy, shownText, longestLine, rowFits, readingsFit, totalsWithin, outside}
+use Rattle.text.proofs.Longest.{MissedFits, shown-longest}
 use Rattle.scan.specs.Scan.{Scanned, passing, handing, holding}
 use Rattle.scan.specs.Carry.{steps, told}
 use Rattle.scan.proofs.CallsLaws.{and-true}
 use Rattle.search.specs.Search.{isDatagram}
 use Rattle.search.proofs.ByteLists.{datagram-parts}
-use Rattle.session.specs.History.{awaitsFirst, gapNext, historyNext}
+use Rattle.session.specs.History.{awaitsFirst, historyNext}
 use Rattle.session.specs.Session.{axesRight}
 use Rattle.session.specs.declared.History.{History}
 use Rattle.session.proofs.AxisLaws.{axes-at, axes-step}
-use Rattle.receiver.specs.Feed.{historyAfter, tell, datagramWith, consumer}
-use Rattle.lines.specs.Lines.{linesAfter}
+use Rattle.receiver.specs.Feed.{historyAfter, datagramWith, consumer}
+use Rattle.receiver.proofs.BySetup.{after-datagram, told-datagram}
+use Rattle.lines.specs.Lines.{lineOf, linesAfter}
 use Rattle.lines.specs.PieceParts.{nextLine, textOf}
 
 -- ---- a gap is a number of at most 256, or none
@@ -68,7 +71,7 @@ totals-small : (u : Setup) (n : ℕ) (a : Axes) → axesRight u n a ≡ true →
 unfolding totalsWithin totalsOf
 totals-small u n a e h =
     let small : (g k : ℕ) → g < 3 → k < 3 → within (2 ^ 53) (axisAt a g k .total) ≡ true =
-    λ g k i j. le-within (2 ^ 53) (axisAt a g k .total) (omega (arith, axes-at u n a e g k i j .total))
+    λ g k i j. le-within (2 ^ 53) (axisAt a g k .total) (omega (arith, axes-at (groupsKept u) n a e g k i j .total))
     in
     all-three
     (all-three (small 0 0 (omega arith) (omega arith)) (small 0 1 (omega arith) (omega arith)) (small 0 2 (omega arith) (omega arith)))
@@ -77,19 +80,22 @@ totals-small u n a e h =
 
 -- ---- the line
 
-module _ (u : Setup) (x : History) (d : List ℕ) where
+module _ (u : Setup) (ok : rulingOn u ≡ Accepted) (x : History) (d : List ℕ) where
   abbrev inside-it : Contents
   inside-it = fieldsOf (u .identifier) d
 
   abbrev pub nextHistory : History
-  nextHistory = historyNext u x (inside-it .readings) (inside-it .statuses) (inside-it .counter)
+  nextHistory = historyNext (groupsKept u) x (inside-it .readings) (inside-it .statuses) (inside-it .counter)
+
+  abbrev pub gapIn : Gap
+  gapIn = gapAt (u .rate) (awaitsFirst x) (x .previous) (inside-it .counter)
 
   -- the next line, by the fields of the datagram
   pub next-line :
       nextLine u x d
-      ≡ lineText u (suc (x .datagrams .0)) (inside-it .counter) (inside-it .latency) (gapNext u x (inside-it .counter)) (inside-it .readings) (inside-it .statuses) (totalsOf (nextHistory .axes))
-  unfolding nextLine tell historyAfter historyNext datagramWith fieldsOf
-  next-line = refl
+      ≡ shownText (shownBy u) (suc (x .datagrams .0)) (inside-it .counter) (inside-it .latency) gapIn (inside-it .readings) (inside-it .statuses) (totalsOf (nextHistory .axes))
+  unfolding nextLine datagramWith fieldsOf
+  next-line = ap (lineOf u (suc (x .datagrams .0))) (told-datagram u ok (awaitsFirst x) x d)
 
   module _ (right : axesRight u (x .datagrams .0) (x .axes) ≡ true) (good : isDatagram u d ≡ true) where
     fits : Fitting inside-it
@@ -97,12 +103,14 @@ module _ (u : Setup) (x : History) (d : List ℕ) where
 
     axes-next : axesRight u (suc (x .datagrams .0)) (nextHistory .axes) ≡ true
     unfolding historyNext
-    axes-next = axes-step u (x .datagrams .0) (x .axes) (inside-it .readings) (inside-it .statuses) (fits .readings) right
+    axes-next = axes-step (groupsKept u) (x .datagrams .0) (x .axes) (inside-it .readings) (inside-it .statuses) (fits .readings) right
 
     -- the axes are right behind it
     pub right-next : axesRight u (steps (consumer u) x d .datagrams .0) (steps (consumer u) x d .axes) ≡ true
-    unfolding historyAfter historyNext
-    right-next = subst (λ (k : ℕ). axesRight u k (nextHistory .axes) ≡ true) (sym (add-one (x .datagrams .0))) axes-next
+    unfolding historyNext
+    right-next =
+        subst (λ (h : History). axesRight u (h .datagrams .0) (h .axes) ≡ true) (sym (after-datagram u ok (awaitsFirst x) x d))
+        (subst (λ (k : ℕ). axesRight u k (nextHistory .axes) ≡ true) (sym (add-one (x .datagrams .0))) axes-next)
 
     module _ (few : suc (x .datagrams .0) ≤ 2 ^ 30) where
       -- 13 doesn't refuse it
@@ -116,11 +124,11 @@ module _ (u : Setup) (x : History) (d : List ℕ) where
           )
 
       -- and it is short
-      pub line-short : length (nextLine u x d) ≤ 307
+      pub line-short : length (nextLine u x d) ≤ longestLine
       line-short =
-          subst (λ (t : List ℕ). length t ≤ 307) (sym next-line)
-          (longest u (suc (x .datagrams .0)) (inside-it .counter) (inside-it .latency) (gapNext u x (inside-it .counter)) (inside-it .readings) (inside-it .statuses) (totalsOf (nextHistory .axes))
-          (omega arith) (fits .counter) (fits .latency) (gap-fits (knownRate (u .rate)) (awaitsFirst x) (x .previous) (inside-it .counter)) (fits .statuses)
+          subst (λ (t : List ℕ). length t ≤ longestLine) (sym next-line)
+          (shown-longest (shownBy u) (suc (x .datagrams .0)) (inside-it .counter) (inside-it .latency) gapIn (inside-it .readings) (inside-it .statuses) (totalsOf (nextHistory .axes))
+          (omega arith) (fits .counter) (fits .latency) (gap-fits (u .rate) (awaitsFirst x) (x .previous) (inside-it .counter)) (fits .statuses)
           (readings-fit (inside-it .readings) (fits .readings)) (totals-small u (suc (x .datagrams .0)) (nextHistory .axes) axes-next few))
 
 -- ---- the lines of what a scan gives

@@ -7,7 +7,8 @@ use Rattle.setup.specs.Setup.{Rule, rule, firstOf}
 use Rattle.setup.specs.declared.Setup.{Setup}
 use Rattle.setup.specs.declared.Ruling as ruling
 use Rattle.setup.specs.declared.Ruling.{Ruling}
-use Rattle.text.specs.TextLine.{lineText}
+use Rattle.text.specs.TextLine.{shownBy, shownText}
+use Rattle.text.specs.declared.Shown.{Shown}
 use Rattle.scan.specs.Scan.{Scanned, scan}
 use Rattle.scan.specs.Stream.{joined}
 use Rattle.scan.specs.Carry.{told, carriedAfter}
@@ -20,11 +21,15 @@ use Rattle.lines.specs.declared.Received.{Received}
 use Rattle.lines.specs.declared.Received.the-variants.{Lines, Refused}
 use Rattle.lines.specs.declared.Batch.{Batch}
 
--- the line of a datagram that came back, under its ordinal
-abbrev pub lineOf : Setup → ℕ → Datagram → List ℕ
-lineOf u ordinal o =
-    lineText u ordinal (o .fields .counter) (o .fields .latency) (o .gap) (o .gyro ∷ o .accelerometer ∷ o .inclinometer ∷ []) (o .fields .statuses)
+-- the line of a datagram that came back, under its ordinal, with the fields that are shown
+abbrev pub lineBy : Shown → ℕ → Datagram → List ℕ
+lineBy shown ordinal o =
+    shownText shown ordinal (o .fields .counter) (o .fields .latency) (o .gap) (o .gyro ∷ o .accelerometer ∷ o .inclinometer ∷ []) (o .fields .statuses)
     (o .totals)
+
+-- of a setup
+abbrev pub lineOf : Setup → ℕ → Datagram → List ℕ
+lineOf u ordinal o = lineBy (shownBy u) ordinal o
 
 -- the lines of datagrams that came back after n others
 unfoldable pub linesAfter : Setup → ℕ → List Datagram → List ℕ

@@ -8,7 +8,8 @@ use lib.Seq.{sets}
 use Rattle.setup.specs.Setup.{rulingOn, lengthOf}
 use Rattle.setup.specs.declared.Setup.{Setup}
 use Rattle.setup.specs.declared.Ruling.the-variants.{Accepted}
-use Rattle.text.specs.TextLine.{longestLine}
+use Rattle.setup.specs.Sensor.{sensorOf}
+use Rattle.text.specs.TextLine.{shownBy, longestLine}
 use Rattle.scan.specs.Scan.{Scanned, scan}
 use Rattle.scan.specs.Stream.{joined}
 use Rattle.scan.specs.Carry.{steps, tells, told, carriedAfter}
@@ -21,7 +22,12 @@ use Rattle.receiver.specs.Feed.{consumer, SessionState, stateOf, sessionOf}
 use Rattle.lines.specs.Lines.{lineOf, linesAfter, enough}
 use Rattle.lines.specs.declared.Received.the-variants.{Lines}
 use Rattle.lines.specs.declared.Batch.{Batch}
+use Rattle.lines.specs.declared.LookedUp.{LookedUp}
 use Rattle.lines.specs.declared.Progress.{Progress}
+
+-- what is looked up once for a piece
+abbrev pub lookedUp : Setup → LookedUp
+lookedUp u = record { setup = u; sensor = sensorOf u; shown = shownBy u }
 
 -- what a session has at a place in a piece, so many bytes being written
 abbrev pub startOf : Session → ℕ → ℕ → Progress

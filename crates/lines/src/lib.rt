@@ -6,22 +6,25 @@ ghost use Prim.Native.Nat.{_+_, _-_, _≤_};
 ghost use lib.ListN.{length};
 ghost use lib.Seq.{sets};
 ghost use Rattle.setup.specs.Setup.{rulingOn};
+ghost use Rattle.setup.specs.Sensor.{sensorOf};
 ghost use Rattle.setup.specs.declared.Ruling.the-variants.{Accepted};
-ghost use Rattle.text.specs.TextLine.{lineText, outside};
+ghost use Rattle.text.specs.TextLine.{shownText, outside};
 ghost use Rattle.text.specs.Putting.{Put};
 ghost use Rattle.search.specs.Search.{isDatagram, limitsOf};
 ghost use Rattle.session.specs.History.{greatestCount};
-ghost use Rattle.lines.specs.Lines.{lineOf, foundIn, refusing, batchOf, batchBuffer};
-ghost use Rattle.lines.specs.PieceParts.{nextLine, startOf, nextOf, stopped, scanAt, Ready, Finished, Answered, Permitted};
+ghost use Rattle.lines.specs.Lines.{lineBy, foundIn, refusing, batchOf, batchBuffer};
+ghost use Rattle.lines.specs.PieceParts.{lookedUp, nextLine, startOf, nextOf, stopped, scanAt, Ready, Finished, Answered, Permitted};
 use motion::Gap;
 use motion::Totals;
 use receiver::Answer;
 use receiver::Datagram;
 use search::Place;
+use session::Admission;
 use session::History;
 use session::Session;
-use setup::Ruling;
+use setup::Sensor;
 use setup::Setup;
+use text::Shown;
 use text::Written;
 
 // A buffer of so many bytes is long enough for the lines of any piece.
@@ -37,6 +40,13 @@ pub enum Received {
 pub struct Batch {
     pub answer: Received,
     pub session: Session,
+}
+
+// What is looked up once for a piece: what the setup says of its sensor, and which fields of a line it shows.
+struct LookedUp {
+    setup: Setup,
+    sensor: Sensor,
+    shown: Shown,
 }
 
 // What a datagram of the piece moves on.
@@ -63,7 +73,7 @@ fn refuse(session: Session, number: u8) -> Batch
 fn put_behind(
     buffer: &mut [u8],
     used: usize,
-    setup: Setup,
+    shown: Shown,
     ordinal: u64,
     counter: u8,
     latency: u16,
@@ -72,12 +82,12 @@ fn put_behind(
     statuses: [u8; 3],
     totals: Totals,
 ) -> usize
-    requires { ⌜ rulingOn setup ≡ Accepted ⌝ ∗ ⌜ outside ordinal readings totals ≡ false ⌝ ∗ ⌜ used + length (lineText setup ordinal counter latency gap readings statuses totals) ≤ length (now buffer) ⌝ }
-    ensures { λ r. ⌜ Put (now (buffer .entry)) used (lineText setup ordinal counter latency gap readings statuses totals) (now (buffer .exit)) r ⌝ }
+    requires { ⌜ outside ordinal readings totals ≡ false ⌝ ∗ ⌜ used + length (shownText shown ordinal counter latency gap readings statuses totals) ≤ length (now buffer) ⌝ }
+    ensures { λ r. ⌜ Put (now (buffer .entry)) used (shownText shown ordinal counter latency gap readings statuses totals) (now (buffer .exit)) r ⌝ }
 {
-    let written = text::write_line(
+    let written = text::write_shown(
         &mut buffer[used..],
-        setup,
+        shown,
         ordinal,
         counter,
         latency,
@@ -94,30 +104,34 @@ fn put_behind(
 
 // The next datagram d, behind so many bytes passed over: it moves the totals on, and its line is written.
 fn one_line(
-    setup: Setup,
+    known: LookedUp,
     progress: Progress,
     skipped: usize,
     d: &[u8],
     buffer: &mut [u8],
 ) -> Progress
-    requires { ⌜ Ready setup progress (progress .at + (skipped + length (now d))) (length (now buffer)) ⌝ ∗ ⌜ isDatagram setup (now d) ≡ true ⌝ }
-    ensures { λ r. ⌜ r ≡ nextOf setup progress skipped (now (d .entry)) ⌝ ∗ ⌜ now (buffer .exit) ≡ sets (now (buffer .entry)) (progress .used) (nextLine setup (progress .history) (now (d .entry))) ⌝ }
+    requires { ⌜ Ready (known .setup) progress (progress .at + (skipped + length (now d))) (length (now buffer)) ⌝ ∗ ⌜ isDatagram (known .setup) (now d) ≡ true ⌝ ∗ ⌜ known ≡ lookedUp (known .setup) ⌝ }
+    ensures { λ r. ⌜ r ≡ nextOf (known .setup) progress skipped (now (d .entry)) ⌝ ∗ ⌜ now (buffer .exit) ≡ sets (now (buffer .entry)) (progress .used) (nextLine (known .setup) (progress .history) (now (d .entry))) ⌝ }
 {
-    let identifier = setup.identifier;
+    let sensor = known.sensor;
+    let shown = known.shown;
+    let row = sensor.row;
+    let rate = sensor.rate;
+    let kept = shown.kept;
     let before = progress.history;
-    let readings = wire::readings(identifier, d);
-    let statuses = wire::statuses(identifier, d);
-    let counter = wire::counter(identifier, d);
-    let latency = wire::latency(identifier, d);
-    let gap = session::gap_before(setup, before, counter);
-    let history = session::advance(setup, before, readings, statuses, counter);
+    let readings = wire::readings(row, d);
+    let statuses = wire::statuses(row, d);
+    let counter = wire::counter(row, d);
+    let latency = wire::latency(row, d);
+    let gap = session::gap_before(rate, before, counter);
+    let history = session::advance(kept, before, readings, statuses, counter);
     let ordinal = history.datagrams.0;
     let axes = history.axes;
     let totals = motion::totals_of(axes);
     let used = put_behind(
         buffer,
         progress.used,
-        setup,
+        shown,
         ordinal,
         counter,
         latency,
@@ -146,19 +160,20 @@ fn stop(progress: Progress, skipped: usize) -> Progress
 }
 
 // The lines of the piece from a place on.
-fn lines_from(setup: Setup, start: Progress, piece: &[u8], buffer: &mut [u8]) -> Progress
-    requires { ⌜ Ready setup start (length (now piece)) (length (now buffer)) ⌝ }
-    ensures { λ r. ⌜ Finished setup start (now (piece .entry)) (now (buffer .entry)) (now (buffer .exit)) r ⌝ }
+fn lines_from(known: LookedUp, start: Progress, piece: &[u8], buffer: &mut [u8]) -> Progress
+    requires { ⌜ Ready (known .setup) start (length (now piece)) (length (now buffer)) ⌝ ∗ ⌜ known ≡ lookedUp (known .setup) ⌝ }
+    ensures { λ r. ⌜ Finished (known .setup) start (now (piece .entry)) (now (buffer .entry)) (now (buffer .exit)) r ⌝ }
 {
+    let sensor = known.sensor;
     let len = piece.len();
     let mut going = start;
     while going.at < len {
         let at = going.at;
         let rest = &piece[at..];
-        match search::find(setup, rest) {
+        match search::find(sensor, rest) {
             Place::Complete(skipped, size) => {
                 let end = skipped + size;
-                going = one_line(setup, going, skipped, &rest[skipped..end], buffer);
+                going = one_line(known, going, skipped, &rest[skipped..end], buffer);
             }
             Place::Undecided(skipped) => {
                 return stop(going, skipped);
@@ -169,8 +184,15 @@ fn lines_from(setup: Setup, start: Progress, piece: &[u8], buffer: &mut [u8]) ->
 }
 
 // The same for a session that holds nothing, with the session behind the piece.
-fn lines_of(session: Session, piece: &[u8], at: usize, used: usize, buffer: &mut [u8]) -> Batch
-    requires { ⌜ Ready (session .setup) (startOf session at used) (length (now piece)) (length (now buffer)) ⌝ ∗ ⌜ session .fed + (length (now piece) - at) ≤ limitsOf (session .setup) .session ⌝ }
+fn lines_of(
+    session: Session,
+    known: LookedUp,
+    piece: &[u8],
+    at: usize,
+    used: usize,
+    buffer: &mut [u8],
+) -> Batch
+    requires { ⌜ Ready (session .setup) (startOf session at used) (length (now piece)) (length (now buffer)) ⌝ ∗ ⌜ session .fed + (length (now piece) - at) ≤ limitsOf (session .setup) .session ⌝ ∗ ⌜ known ≡ lookedUp (session .setup) ⌝ }
     ensures { λ r. ⌜ Answered session used (scanAt (session .setup) (now (piece .entry)) at) (length (now (piece .entry)) - at) (now (buffer .entry)) (now (buffer .exit)) r ⌝ }
 {
     let setup = session.setup;
@@ -181,7 +203,7 @@ fn lines_of(session: Session, piece: &[u8], at: usize, used: usize, buffer: &mut
         at: at,
         used: used,
     };
-    let end = lines_from(setup, start, piece, buffer);
+    let end = lines_from(known, start, piece, buffer);
     let place = end.at;
     let last = end.history;
     let after = session::session_with(
@@ -198,9 +220,9 @@ fn lines_of(session: Session, piece: &[u8], at: usize, used: usize, buffer: &mut
 }
 
 // The line of a datagram that came back, at the front of the buffer.
-fn first_line(setup: Setup, ordinal: u64, datagram: Datagram, buffer: &mut [u8]) -> usize
-    requires { ⌜ rulingOn setup ≡ Accepted ⌝ ∗ ⌜ outside ordinal (datagram .gyro ∷ datagram .accelerometer ∷ datagram .inclinometer ∷ []) (datagram .totals) ≡ false ⌝ ∗ ⌜ length (lineOf setup ordinal datagram) ≤ length (now buffer) ⌝ }
-    ensures { λ r. ⌜ Put (now (buffer .entry)) 0 (lineOf setup ordinal datagram) (now (buffer .exit)) r ⌝ }
+fn first_line(shown: Shown, ordinal: u64, datagram: Datagram, buffer: &mut [u8]) -> usize
+    requires { ⌜ outside ordinal (datagram .gyro ∷ datagram .accelerometer ∷ datagram .inclinometer ∷ []) (datagram .totals) ≡ false ⌝ ∗ ⌜ length (lineBy shown ordinal datagram) ≤ length (now buffer) ⌝ }
+    ensures { λ r. ⌜ Put (now (buffer .entry)) 0 (lineBy shown ordinal datagram) (now (buffer .exit)) r ⌝ }
 {
     let gyro = datagram.gyro;
     let accelerometer = datagram.accelerometer;
@@ -212,7 +234,7 @@ fn first_line(setup: Setup, ordinal: u64, datagram: Datagram, buffer: &mut [u8])
     put_behind(
         buffer,
         0,
-        setup,
+        shown,
         ordinal,
         fields.counter,
         fields.latency,
@@ -224,11 +246,11 @@ fn first_line(setup: Setup, ordinal: u64, datagram: Datagram, buffer: &mut [u8])
 }
 
 // The lines of a piece behind bytes that are held.
-fn lines_behind(session: Session, piece: &[u8], buffer: &mut [u8]) -> Batch
-    requires { ⌜ Permitted session (length (now piece)) (length (now buffer)) ⌝ }
+fn lines_behind(session: Session, known: LookedUp, piece: &[u8], buffer: &mut [u8]) -> Batch
+    requires { ⌜ Permitted session (length (now piece)) (length (now buffer)) ⌝ ∗ ⌜ known ≡ lookedUp (session .setup) ⌝ }
     ensures { λ r. ⌜ Answered session 0 (foundIn session (now (piece .entry))) (length (now (piece .entry))) (now (buffer .entry)) (now (buffer .exit)) r ⌝ }
 {
-    let setup = session.setup;
+    let shown = known.shown;
     let reply = receiver::feed(session, piece);
     let answer = reply.answer;
     let taken = reply.taken;
@@ -237,8 +259,8 @@ fn lines_behind(session: Session, piece: &[u8], buffer: &mut [u8]) -> Batch
         Answer::Datagram => {
             let datagram = reply.datagram;
             let history = next.history;
-            let used = first_line(setup, history.datagrams.0, datagram, buffer);
-            lines_of(next, piece, taken, used, buffer)
+            let used = first_line(shown, history.datagrams.0, datagram, buffer);
+            lines_of(next, known, piece, taken, used, buffer)
         }
         Answer::Waiting => Batch {
             answer: Received::Lines(0),
@@ -249,27 +271,46 @@ fn lines_behind(session: Session, piece: &[u8], buffer: &mut [u8]) -> Batch
 }
 
 // The lines of a piece that nothing refuses.
-fn all_lines(session: Session, piece: &[u8], buffer: &mut [u8]) -> Batch
-    requires { ⌜ Permitted session (length (now piece)) (length (now buffer)) ⌝ }
+fn all_lines(session: Session, known: LookedUp, piece: &[u8], buffer: &mut [u8]) -> Batch
+    requires { ⌜ Permitted session (length (now piece)) (length (now buffer)) ⌝ ∗ ⌜ known ≡ lookedUp (session .setup) ⌝ }
     ensures { λ r. ⌜ Answered session 0 (foundIn session (now (piece .entry))) (length (now (piece .entry))) (now (buffer .entry)) (now (buffer .exit)) r ⌝ }
 {
     let count = session.count;
     if count == 0 {
-        return lines_of(session, piece, 0, 0, buffer);
+        return lines_of(session, known, piece, 0, 0, buffer);
     }
-    lines_behind(session, piece, buffer)
+    lines_behind(session, known, piece, buffer)
+}
+
+// What is looked up once for a piece of a session.
+fn looked_up(setup: Setup, sensor: Sensor) -> LookedUp
+    requires { ⌜ (rulingOn setup ≡ Accepted) × (sensor ≡ sensorOf setup) ⌝ }
+    ensures { λ r. ⌜ r ≡ lookedUp setup ⌝ }
+{
+    let row = sensor.row;
+    let units = sensor.units;
+    let shown = text::shown_of(row, units);
+    LookedUp {
+        setup: setup,
+        sensor: sensor,
+        shown: shown,
+    }
 }
 
 // A piece fed to its end, and the line of each datagram that it completes; or 10, 11, 12 or 14 refuses it and writes nothing.
 pub fn receive_lines(session: Session, piece: &[u8], buffer: &mut [u8]) -> Batch
     ensures { λ r. ⌜ r ≡ batchOf session (now (piece .entry)) (length (now (buffer .entry))) ⌝ ∗ ⌜ now (buffer .exit) ≡ batchBuffer session (now (piece .entry)) (now (buffer .entry)) ⌝ }
 {
-    let ruling = session::rule_on_piece(session, piece.len());
-    if let Ruling::Refused(number) = ruling {
-        return refuse(session, number);
+    let admission = session::admit(session, piece.len());
+    match admission {
+        Admission::Refused(number) => refuse(session, number),
+        Admission::Admitted(sensor) => {
+            if buffer.len() < ENOUGH {
+                return refuse(session, 14);
+            }
+            let setup = session.setup;
+            let known = looked_up(setup, sensor);
+            all_lines(session, known, piece, buffer)
+        }
     }
-    if buffer.len() < ENOUGH {
-        return refuse(session, 14);
-    }
-    all_lines(session, piece, buffer)
 }

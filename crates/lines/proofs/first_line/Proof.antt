@@ -5,7 +5,7 @@ use Rattle.lines.proofs.first_line.Statement.{statement}
 use Rattle.lines.proofs.first_line.Tie as tie
 
 put-behind-requires : tie.Need-put-behind-requires
-put-behind-requires c κs = let p = c .before .before .before .before .before .before .before .before .pre in (p .0, (p .1 .0, omega (arith, p .1 .1)))
+put-behind-requires c κs = let p = c .before .before .before .before .before .before .before .before .pre in (p .0, omega (arith, p .1))
 
 same-length : tie.Need-same-length
 same-length c = search needs
