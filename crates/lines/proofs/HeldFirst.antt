@@ -8,6 +8,7 @@ use native.Mathlib.Numerals.{add-one}
 use native.Mathlib.Omega.{arith}
 use lib.ListN.{length, take, drop, length-append, length-drop}
 use lib.Seq.{sets, drop-append-add}
+use Rattle.integers.proofs.Buffers.{sets-append}
 use Rattle.setup.specs.Setup.{lengthOf}
 use Rattle.setup.specs.declared.Setup.{Setup}
 use Rattle.setup.proofs.Refusals.{accepted-length}
@@ -36,7 +37,6 @@ use Rattle.lines.specs.declared.Batch.{Batch}
 use Rattle.lines.specs.Lines.{lineOf, foundIn, enough}
 use Rattle.lines.specs.PieceParts.{startOf, nextLine, textOf, batchBy, Ready, scanAt, Answered, Permitted}
 use Rattle.lines.proofs.NextLines.{nextHistory, right-next, line-inside, line-short, text-none, text-more}
-use Rattle.lines.proofs.Placing.{sets-append}
 use Rattle.lines.proofs.LoopInvariant.{scan-complete, scan-open, few-of}
 
 module _ (s : Session) (p : List ℕ) (room : ℕ) (a : Permitted s (length p) room) where

@@ -7,6 +7,7 @@ use native.Mathlib.Nat.{add-zero, mul-add, mul-one, mul-le-mul-right}
 use native.Mathlib.Omega.{arith}
 use lib.ListN.{length, take, drop, length-append, length-drop, drop-of-length-le}
 use lib.Seq.{sets, length-sets, length-take-le, take-all, drop-drop}
+use Rattle.integers.proofs.Buffers.{to-end, sets-append}
 use Rattle.session.specs.History.{historyNext}
 use Rattle.session.specs.Session.{sessionWith}
 use Rattle.setup.specs.Setup.{rulingOn, lengthOf}
@@ -19,7 +20,7 @@ use Rattle.scan.proofs.ScanLaws.{scan-first, unrolled}
 use Rattle.scan.proofs.AmongLaws.{stable}
 use Rattle.search.specs.Search.{isDatagram, limitsOf, rulesOf, verdictOf}
 use Rattle.search.proofs.Datagrams.{lawful}
-use Rattle.search.proofs.Places.{to-end, IsComplete, IsUndecided, complete-length}
+use Rattle.search.proofs.Places.{IsComplete, IsUndecided, complete-length}
 use Rattle.session.specs.declared.Session.{Session}
 use Rattle.session.proofs.Soundness.{sound-facts}
 use Rattle.session.proofs.PieceRulings.{admitted}
@@ -28,7 +29,6 @@ use Rattle.lines.specs.declared.Received.the-variants.{Lines}
 use Rattle.lines.specs.declared.Progress.{Progress}
 use Rattle.lines.specs.PieceParts.{startOf, nextLine, textOf, nextOf, stopped, behindBy, batchBy, Ready, scanAt, Finished, Answered, Permitted}
 use Rattle.lines.proofs.NextLines.{right-next, line-short, text-none, text-more}
-use Rattle.lines.proofs.Placing.{sets-append}
 
 -- ---- the scan by what find tells
 

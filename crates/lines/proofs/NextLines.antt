@@ -12,22 +12,21 @@ use lib.ListN.{length, getD}
 use Rattle.integers.specs.Ranges.{within}
 use Rattle.integers.proofs.Folding.{InRange}
 use Rattle.integers.proofs.Ranges.{le-within, range-inReading}
+use Rattle.integers.proofs.Booleans.{and-true}
 use Rattle.setup.specs.declared.Setup.{Setup}
 use Rattle.wire.specs.Fields.{Contents, fieldsOf}
 use Rattle.wire.proofs.FieldRanges.{Fitting, fields-fit}
-use Rattle.motion.specs.Gaps.{datagrams, stepAt, elapsed, missedAfter, gapAt, gapBetween, knownRate}
+use Rattle.motion.specs.Gaps.{datagrams, stepAt, elapsed, missedAfter, gapAt, knownRate}
 use Rattle.motion.specs.Totals.{axisAt, totalsOf}
 use Rattle.motion.specs.declared.Axes.{Axes}
-use Rattle.motion.specs.declared.Gap.{Gap}
 use Rattle.motion.specs.declared.Gap.the-variants.{Missed, OffStep}
 use Rattle.motion.proofs.Gaps.{elapsed-range}
 use Rattle.text.specs.TextLine.{lineText, rowFits, readingsFit, totalsWithin, outside}
 use Rattle.text.proofs.Longest.{MissedFits, longest}
 use Rattle.scan.specs.Scan.{Scanned, passing, handing, holding}
 use Rattle.scan.specs.Carry.{steps, told}
-use Rattle.scan.proofs.CallsLaws.{and-true}
 use Rattle.search.specs.Search.{isDatagram}
-use Rattle.search.proofs.ByteLists.{datagram-parts}
+use Rattle.search.proofs.Datagrams.{datagram-parts}
 use Rattle.session.specs.History.{awaitsFirst, gapNext, historyNext}
 use Rattle.session.specs.Session.{axesRight}
 use Rattle.session.specs.declared.History.{History}

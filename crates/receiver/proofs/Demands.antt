@@ -11,6 +11,7 @@ use lib.IntN.{ℤ, pos, natAbs, _-ℤ_, _*ℤ_}
 use lib.Seq.{length-take-le}
 use lib.ListN.{length, take, getD, length-map}
 use Rattle.integers.proofs.Folding.{abs-of-range}
+use Rattle.integers.proofs.Buffers.{padded-front}
 use Rattle.setup.specs.Setup.{rulingOn, lengthOf}
 use Rattle.setup.specs.declared.Setup.{Setup}
 use Rattle.setup.specs.declared.Ruling.the-variants.{Accepted}
@@ -37,8 +38,7 @@ use Rattle.scan.proofs.RunLaws.{ready, always-run, always-delivered, run-one, f
 use Rattle.scan.proofs.StreamLaws.{every-stream, reports-no-ten}
 use Rattle.scan.proofs.OneLength.{joined-length, scan-bare}
 use Rattle.search.specs.Search.{isDatagram, limitsOf, rulesOf, verdictOf}
-use Rattle.search.proofs.ByteLists.{datagram-parts}
-use Rattle.search.proofs.Datagrams.{datagram-length, datagram-least, lawful, prompt}
+use Rattle.search.proofs.Datagrams.{datagram-length, datagram-least, lawful, prompt, datagram-parts}
 use Rattle.session.specs.History.{noAxis, noHistory}
 use Rattle.session.specs.declared.History.{History}
 use Rattle.session.specs.Session.{freshOf, opening, isSound, heldBytes}
@@ -55,7 +55,6 @@ use Rattle.receiver.proofs.Agreement.{Like, StateRun, run-of-states, ru
 use Rattle.receiver.proofs.EachCall.{not-refused, call-kept}
 use Rattle.receiver.proofs.OneLength.{undecided-held, handed-last, empty-call}
 use Rattle.receiver.proofs.CallParts.{fed-unsound, fed-over, fed-past}
-use Rattle.session.proofs.Padding.{padded-front}
 use Rattle.receiver.proofs.ContainedAt.{carried-datagrams, contained-at}
 use Rattle.receiver.proofs.AxisAt.{after-ruled, axisThen, total-then, double-then, then-bound, sighting-at, sightings-length, independent}
 

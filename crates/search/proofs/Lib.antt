@@ -1,4 +1,3 @@
 -- Laws of the rules.
-pub mod ByteLists
 pub mod Datagrams
 pub mod Places

@@ -9,7 +9,8 @@ use lib.ListN.{getD}
 use borrow.Author.Tests.{not-true}
 use Rattle.integers.specs.Ranges.{isZero}
 use Rattle.integers.proofs.Folding.{InRange}
-use Rattle.integers.proofs.Ranges.{and-split, within-true, le-within, inReading-true, range-inReading, isZero-true}
+use Rattle.integers.proofs.Ranges.{within-true, le-within, inReading-true, range-inReading, isZero-true}
+use Rattle.integers.proofs.Booleans.{and-split, and-true}
 use Rattle.setup.specs.declared.Setup.{Setup}
 use Rattle.motion.specs.declared.Axis.{Axis}
 use Rattle.motion.specs.declared.GroupAxes.{GroupAxes}
@@ -17,7 +18,6 @@ use Rattle.motion.specs.declared.Axes.{Axes}
 use Rattle.motion.specs.Totals.{Sighting, keptStep, keeps, seen, stepped, axisIn, axisAt}
 use Rattle.motion.proofs.NineAxes.{each, step-at}
 use Rattle.motion.proofs.Bounds.{step-bound, last-range, not-begun, step-not-kept}
-use Rattle.scan.proofs.CallsLaws.{and-true}
 use Rattle.session.specs.History.{noAxis, noGroup, noAxes}
 use Rattle.session.specs.Session.{totalRight, lastRight, isIdle, idleRight, axisRight, groupRight, axesRight}
 

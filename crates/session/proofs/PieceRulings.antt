@@ -1,9 +1,9 @@
 -- What the ruling on a piece tells: the number that refuses it, or that nothing does (01, What is turned down, 10 to 12). Assumes nothing.
-use Prim.Native.Nat.{ℕ, _+_, _≤_, _<_}
+use Prim.Native.Nat.{ℕ, _+_, _≤_}
 use mathlib.Core.Path.{_≡_}
-use mathlib.Core.Bool.{true, false}
+use mathlib.Core.Bool.{true}
 use native.Mathlib.Omega.{arith}
-use borrow.Author.Tests.{lt-ltb, le-ltb, ltb-false, not-false}
+use borrow.Author.Tests.{le-ltb, ltb-false, not-false}
 use Rattle.setup.specs.declared.Ruling.the-variants.{Accepted, Refused}
 use Rattle.setup.proofs.Rules.{first-within, none-applies}
 use Rattle.search.specs.Search.{limitsOf}

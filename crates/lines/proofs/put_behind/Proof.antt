@@ -6,11 +6,10 @@ use native.Mathlib.Omega.{arith}
 use borrow.Author.Needs.{needs}
 use borrow.Rule.Slice.PartMut.{putMid}
 use lib.ListN.{length, take, drop, length-drop}
+use Rattle.integers.proofs.Buffers.{to-end, put-part}
 use Rattle.text.specs.TextLine.{lineText}
 use Rattle.text.specs.declared.Written.the-variants.{Line}
 use Rattle.text.proofs.LineLaws.{written-tells, written-front, enough-room}
-use Rattle.search.proofs.Places.{to-end}
-use Rattle.lines.proofs.Placing.{put-part}
 use Rattle.lines.proofs.put_behind.Statement.{statement}
 use Rattle.lines.proofs.put_behind.Tie as tie
 

@@ -11,6 +11,7 @@ use lib.ListN.{length, take, drop, length-drop, drop-of-length-le}
 use lib.Seq.{length-take-le}
 use Rattle.integers.specs.Bytes.{AllBytes}
 use Rattle.integers.proofs.Bytes.{bytes-take, bytes-drop}
+use Rattle.integers.proofs.Buffers.{part-of}
 use Rattle.setup.specs.Setup.{lengthOf}
 use Rattle.setup.specs.declared.Setup.{Setup}
 use Rattle.wire.specs.Acceptable.{acceptable}
@@ -20,9 +21,7 @@ use Rattle.scan.proofs.OneLength.{identifier-told, other-told}
 use Rattle.scan.proofs.PlaceLaws.{passes-other, passes-wrong, holds-short, hands-right}
 use Rattle.search.specs.declared.Place.the-variants.{Complete, Undecided}
 use Rattle.search.specs.Search.{isDatagram, rulesOf, verdictOf, placeOf}
-use Rattle.search.proofs.ByteLists.{bytes-datagram}
-use Rattle.search.proofs.Datagrams.{datagram-least}
-use Rattle.search.proofs.Places.{part-of}
+use Rattle.search.proofs.Datagrams.{datagram-least, bytes-datagram}
 use Rattle.search.proofs.find.Statement.{statement}
 use Rattle.search.proofs.find.Tie as tie
 

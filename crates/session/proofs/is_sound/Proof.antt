@@ -7,9 +7,9 @@ use lib.Dec.{leb}
 use lib.ListN.{length}
 use borrow.Author.Tests.{not-true, not-false, leb-true}
 use borrow.Author.Needs.{needs}
+use Rattle.integers.proofs.Booleans.{and-split}
 use Rattle.setup.specs.Setup.{rulingOn, lengthOf}
 use Rattle.setup.proofs.Refusals.{accepted-length}
-use Rattle.integers.proofs.Ranges.{and-split}
 use Rattle.search.specs.Search.{limitsOf, rulesOf}
 use Rattle.session.specs.Session.{isAccepted, heldBytes, heldRight, restRight, sumRight, fedRight}
 use Rattle.session.proofs.Soundness.{accepted-true, in-parts, counts-few}
