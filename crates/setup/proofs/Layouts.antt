@@ -1,10 +1,10 @@
 -- Laws of the layouts: 01's byte counts, lengths from 18 to 65, and every part before the check.
-use Prim.Native.Nat.{ℕ, _+_, _≤_}
+use Prim.Native.Nat.{ℕ, suc, _+_, _≤_}
 use native.Mathlib.Omega.{arith}
-use mathlib.Core.Bool.{Bool, true, false, _||_, cond}
-use mathlib.Core.List.{List, [], _∷_, _++_}
+use mathlib.Core.Bool.{Bool, true, false, _&&_, _||_, cond}
+use mathlib.Core.List.{List, [], _∷_, _++_, map}
 use mathlib.Core.Path.{_≡_, refl, sym, ap, _∙_}
-use lib.Dec.{eqb, ltb}
+use lib.Dec.{eqb, ltb, leb}
 use lib.ListN.{getD, length}
 use borrow.Author.Tests.{eqb-true, lt-ltb}
 use Rattle.crc.specs.Check.{stim300}
@@ -20,6 +20,18 @@ EachEntry P (e ∷ es) = P e × EachEntry P es
 pub table-adds-up : EachEntry (λ e. bytes (partsOf (carrying (e .carries))) ≡ e .before) table
 unfolding partsOf
 table-adds-up = (refl, (refl, (refl, (refl, (refl, (refl, (refl, (refl, (refl, (refl, (refl, (refl, (refl, (refl, (refl, (refl, tt))))))))))))))))
+
+-- the parts of a row stand in 01's order
+abbrev rising : ℕ → List ℕ → Bool
+rising low [] = true
+rising low (n ∷ ns) = leb low n && rising (suc n) ns
+
+abbrev InOrder : Row → Type 0
+InOrder r = rising 0 (map place (partsOf r)) ≡ true
+
+pub parts-in-order : (r : Row) → InOrder r
+unfolding partsOf
+parts-in-order = every-row InOrder ((refl, refl, refl, refl), (refl, refl, refl, refl), (refl, refl, refl, refl), (refl, refl, refl, refl))
 
 -- a carried part ends at or before the end of the parts
 within-by : (b r : Bool) (n m k o : ℕ) → (b || r) ≡ true → (b ≡ true → n ≤ m) → (r ≡ true → o + n ≤ k) → cond b 0 (m + o) + n ≤ m + k

@@ -7,7 +7,7 @@ use mathlib.Core.Path.{_≡_, refl, ap}
 use lib.Dec.{eqb, ltb}
 use lib.ListN.{getD}
 use borrow.Author.Tests.{eqb-true, ltb-false, not-false}
-use Rattle.integers.proofs.Ranges.{or-split}
+use Rattle.integers.proofs.Booleans.{or-split}
 use Rattle.setup.specs.Layout.{layoutOf, lengthIn, rowAt, groupsCarried}
 use Rattle.setup.specs.Setup.{rateListed, isListed, anyAbove, strayGroup, stray, setupRules, rulingOn, zeroSetup, terminated, lengthAt, lengthOf}
 use Rattle.setup.specs.declared.Row.{Row}

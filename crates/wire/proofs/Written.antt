@@ -11,7 +11,7 @@ use lib.Seq.{length-take-le, drop-cons, take-at, drop-at, drop-drop}
 use borrow.Author.Tests.{eq-eqb, eqb-true}
 use Rattle.integers.specs.Bytes.{AllBytes, bigEndian}
 use Rattle.integers.proofs.Bytes.{bytes-nil, bytes-cons, bytes-append, bytes-take, bytes-drop, bigEndian-injective}
-use Rattle.integers.proofs.Ranges.{and-split}
+use Rattle.integers.proofs.Booleans.{and-split}
 use Rattle.crc.specs.Check.{stim300, check32}
 use Rattle.crc.proofs.Checks.{check32-lt}
 use Rattle.setup.specs.Layout.{bytes, partsOf, Layout, layoutOf, lengthIn, rowAt}
