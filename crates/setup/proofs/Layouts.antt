@@ -8,7 +8,9 @@ use lib.Dec.{eqb, ltb, leb}
 use lib.ListN.{getD, length}
 use borrow.Author.Tests.{eqb-true, lt-ltb}
 use Rattle.crc.specs.Check.{stim300}
-use Rattle.setup.specs.Layout.{Part, identifier, gyro, accelerometer, inclinometer, gyroTemperatures, accelerometerTemperatures, inclinometerTemperatures, aux, counter, latency, size, bytes, only, groupParts, temperatureParts, partsOf, Layout, layoutOf, lengthIn, Entry, table, carrying, place, carries, offset, placed}
+use Rattle.setup.specs.Layout.{Part, identifier, gyro, accelerometer, inclinometer, gyroTemperatures, accelerometerTemperatures}
+use Rattle.setup.specs.Layout.{inclinometerTemperatures, aux, counter, latency, size, bytes, only, groupParts, temperatureParts, partsOf}
+use Rattle.setup.specs.Layout.{Layout, layoutOf, lengthIn, Entry, table, R, has, carrying, place, carries, offset, placed}
 use Rattle.setup.specs.declared.Row.{Row}
 use Rattle.setup.proofs.Rows.{every-row}
 
@@ -20,6 +22,10 @@ EachEntry P (e ∷ es) = P e × EachEntry P es
 pub table-adds-up : EachEntry (λ e. bytes (partsOf (carrying (e .carries))) ≡ e .before) table
 unfolding partsOf
 table-adds-up = (refl, (refl, (refl, (refl, (refl, (refl, (refl, (refl, (refl, (refl, (refl, (refl, (refl, (refl, (refl, (refl, tt))))))))))))))))
+
+-- and each has R, as every row has the gyro group
+pub table-has-rate : EachEntry (λ e. has (e .carries) R ≡ true) table
+table-has-rate = (refl, (refl, (refl, (refl, (refl, (refl, (refl, (refl, (refl, (refl, (refl, (refl, (refl, (refl, (refl, (refl, tt))))))))))))))))
 
 -- the parts of a row stand in 01's order
 abbrev rising : ℕ → List ℕ → Bool
@@ -41,7 +47,8 @@ within-by false r n m k o e f g = let h : o + n ≤ k = g e in omega arith
 -- the parts in 01's order: a part's number is its place here, so that two parts with one number are the same
 abbrev inOrder : List Part
 inOrder =
-    identifier ∷ gyro ∷ accelerometer ∷ inclinometer ∷ gyroTemperatures ∷ accelerometerTemperatures ∷ inclinometerTemperatures ∷ aux ∷ counter ∷ latency ∷ []
+    identifier ∷ gyro ∷ accelerometer ∷ inclinometer ∷ gyroTemperatures ∷ accelerometerTemperatures ∷ inclinometerTemperatures ∷
+    aux ∷ counter ∷ latency ∷ []
 
 numbered : (p : Part) → getD inOrder (place p) identifier ≡ p
 numbered identifier = refl
@@ -55,7 +62,7 @@ numbered aux = refl
 numbered counter = refl
 numbered latency = refl
 
-pub same-part : (p q : Part) → place p ≡ place q → p ≡ q
+same-part : (p q : Part) → place p ≡ place q → p ≡ q
 same-part p q e = sym (numbered p) ∙ ap (λ n. getD inOrder n identifier) e ∙ numbered q
 
 same-size : (p q : Part) → eqb (place p) (place q) ≡ true → size p ≤ size q

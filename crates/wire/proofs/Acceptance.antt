@@ -136,16 +136,16 @@ module _ (r : Row) (s : List ℕ) where
   ending-bytes e =
       let n = lengthIn (layoutOf r false) in
       let h : bytes (partsOf r) + stim300 .width / 8 ≡ n = omega arith in
-      ap (λ bs. same bs (0x0D ∷ 0x0A ∷ [])) (ap (λ k. drop k s) h ∙ two-left s n (omega arith)) ∙ last-true (eqb (getD s n 0) 0x0D) (eqb (getD s (n + 1) 0) 0x0A)
+      ap (λ bs. same bs (0x0D ∷ 0x0A ∷ [])) (ap (λ k. drop k s) h ∙ two-left s n (omega arith))
+      ∙ last-true (eqb (getD s n 0) 0x0D) (eqb (getD s (n + 1) 0) 0x0A)
 
   pub ending-none : length s ≡ lengthIn (layoutOf r false) → endingRight (layoutOf r false) s ≡ true
   unfolding endingRight
   ending-none e = let h : length s ≤ bytes (partsOf r) + stim300 .width / 8 = omega arith in rw (drop-of-length-le s h)
 
-  pub check-bytes : bytes (partsOf r) + 4 ≤ length s
+  pub check-bytes : let n = bytes (partsOf r) in n + 4 ≤ length s
       → checkRight (layoutOf r false) s
-      ≡ eqb (bigEndian (getD s (bytes (partsOf r)) 0 ∷ getD s (bytes (partsOf r) + 1) 0 ∷ getD s (bytes (partsOf r) + 2) 0 ∷ getD s (bytes (partsOf r) + 3) 0 ∷ []))
-      (check32 (take (bytes (partsOf r)) s))
+      ≡ eqb (bigEndian (getD s n 0 ∷ getD s (n + 1) 0 ∷ getD s (n + 2) 0 ∷ getD s (n + 3) 0 ∷ [])) (check32 (take n s))
   unfolding checkRight stim300 check32
   check-bytes h =
       let n = bytes (partsOf r) in
@@ -158,7 +158,10 @@ in-order true true false d = refl
 in-order true true true d = refl
 
 pub tested : (i : ℕ) (r : Row) (t : Bool) (s : List ℕ)
-    → acceptableIn i (layoutOf r t) s
-    ≡ (eqb (length s) (lengthIn (layoutOf r t)) && (not (not (eqb (getD s 0 0) i) || not (endingRight (layoutOf r t) s)) && checkRight (layoutOf r false) s))
+    → let l = layoutOf r t in
+    acceptableIn i l s
+    ≡ (eqb (length s) (lengthIn l) && (not (not (eqb (getD s 0 0) i) || not (endingRight l s)) && checkRight (layoutOf r false) s))
 unfolding acceptableIn checkRight
-tested i r t s = in-order (eqb (length s) (lengthIn (layoutOf r t))) (eqb (getD s 0 0) i) (endingRight (layoutOf r t) s) (checkRight (layoutOf r false) s)
+tested i r t s =
+    let l = layoutOf r t in
+    in-order (eqb (length s) (lengthIn l)) (eqb (getD s 0 0) i) (endingRight l s) (checkRight (layoutOf r false) s)
