@@ -14,7 +14,8 @@ use mir.Syntax.{Width}
 use mir.Val.{hbits, SFits, ofZ, toZ}
 use mir.ValLaws.{toZ-pos, toZ-ofZ}
 use borrow.Author.Tests.{lt-ltb, le-ltb, ltb-true, ltb-false}
-use Rattle.integers.specs.Bytes.{AllBytes, bigEndian, twosComplement, signedBytes}
+use Rattle.integers.specs.Bytes.{AllBytes, areBytes, bigEndian, twosComplement, signedBytes}
+use Rattle.integers.proofs.Booleans.{and-split, and-true}
 use Rattle.integers.proofs.Parts.{posPart, negPart, parts-apart, sub-parts}
 use Rattle.integers.proofs.Signed.{sfits-of-parts}
 
@@ -32,6 +33,19 @@ bytes-cons {b} {bs} h k = record { each = at }
 
 pub bytes-tail : {b : ℕ} {bs : List ℕ} → AllBytes (b ∷ bs) → AllBytes bs
 bytes-tail h = record { each = λ i. h .each (suc i) }
+
+-- the test of bytes, both ways
+pub areBytes-all : (bs : List ℕ) → areBytes bs ≡ true → AllBytes bs
+unfolding areBytes
+areBytes-all [] e = bytes-nil
+areBytes-all (b ∷ bs) e =
+    let k = and-split _ (areBytes bs) e in
+    bytes-cons (ltb-true b _ (k .0)) (areBytes-all bs (k .1))
+
+pub all-areBytes : (bs : List ℕ) → AllBytes bs → areBytes bs ≡ true
+unfolding areBytes
+all-areBytes [] h = refl
+all-areBytes (b ∷ bs) h = and-true (lt-ltb b _ (h .each 0)) (all-areBytes bs (bytes-tail h))
 
 pub bytes-append : {xs ys : List ℕ} → AllBytes xs → AllBytes ys → AllBytes (xs ++ ys)
 bytes-append {xs = []} h k = k

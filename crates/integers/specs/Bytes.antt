@@ -1,6 +1,6 @@
 -- The values of bytes (01, Layout by identifier): the most significant byte comes first, readings are two's complement.
 use Prim.Native.Nat.{ℕ, _+_, _*_, _^_, _<_}
-use mathlib.Core.Bool.{cond}
+use mathlib.Core.Bool.{Bool, true, cond, _&&_}
 use mathlib.Core.List.{List, [], _∷_}
 use lib.Dec.{ltb}
 use lib.IntN.{ℤ, pos, _-ℤ_}
@@ -9,6 +9,11 @@ use lib.ListN.{length, getD}
 -- every element is a byte
 pub record AllBytes (bs : List ℕ) : Type 0 where
   pub each : (i : ℕ) → getD bs i 0 < 256
+
+-- the same as a test
+unfoldable pub areBytes : List ℕ → Bool
+areBytes [] = true
+areBytes (b ∷ bs) = ltb b 256 && areBytes bs
 
 -- the value of bytes as an unsigned number
 unfoldable pub bigEndian : List ℕ → ℕ

@@ -7,11 +7,11 @@ use native.Mathlib.Omega.{arith}
 use borrow.Author.Tests.{le-ltb, lt-ltb}
 use lib.Dec.{ltb}
 use lib.ListN.{length, take, drop}
+use Rattle.integers.proofs.Buffers.{put-front}
 use Rattle.setup.specs.Setup.{rule, firstOf}
 use Rattle.setup.specs.declared.Ruling.{Ruling}
 use Rattle.setup.specs.declared.Ruling.the-variants.{Accepted, Refused}
 use Rattle.setup.proofs.Rules.{first-accepted, first-refused}
-use Rattle.text.proofs.Answers.{put-front}
 use Rattle.scan.specs.Scan.{Scanned, scan}
 use Rattle.search.specs.Search.{verdictOf}
 use Rattle.session.specs.Session.{pieceRules, pieceRuling}

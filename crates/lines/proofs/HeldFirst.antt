@@ -36,7 +36,7 @@ use Rattle.lines.specs.declared.Batch.{Batch}
 use Rattle.lines.specs.Lines.{lineOf, foundIn, enough}
 use Rattle.lines.specs.PieceParts.{startOf, nextLine, textOf, batchBy, Ready, scanAt, Answered, Permitted}
 use Rattle.lines.proofs.NextLines.{right-next, line-inside, line-short, text-none, text-more}
-use Rattle.lines.proofs.Placing.{sets-append}
+use Rattle.integers.proofs.Buffers.{sets-append}
 use Rattle.lines.proofs.LoopInvariant.{scan-complete, scan-open, few-of}
 
 module _ (s : Session) (p : List ℕ) (room : ℕ) (a : Permitted s (length p) room) where

@@ -1,6 +1,5 @@
 -- Laws of the lines of a piece.
 pub mod NextLines
-pub mod Placing
 pub mod LoopInvariant
 pub mod HeldFirst
 pub mod Batches

@@ -20,7 +20,8 @@ use Rattle.scan.proofs.ScanLaws.{scan-first, unrolled}
 use Rattle.scan.proofs.AmongLaws.{stable}
 use Rattle.search.specs.Search.{isDatagram, limitsOf, rulesOf, verdictOf}
 use Rattle.search.proofs.Datagrams.{lawful}
-use Rattle.search.proofs.Places.{to-end, IsComplete, IsUndecided, complete-length}
+use Rattle.integers.proofs.Buffers.{to-end, sets-append}
+use Rattle.search.proofs.Places.{IsComplete, IsUndecided, complete-length}
 use Rattle.session.specs.declared.Session.{Session}
 use Rattle.session.proofs.Soundness.{sound-facts}
 use Rattle.session.proofs.PieceRulings.{admitted}
@@ -30,7 +31,6 @@ use Rattle.lines.specs.declared.Received.the-variants.{Lines}
 use Rattle.lines.specs.declared.Progress.{Progress}
 use Rattle.lines.specs.PieceParts.{startOf, nextLine, textOf, nextOf, stopped, behindBy, batchBy, Ready, scanAt, Finished, Answered, Permitted}
 use Rattle.lines.proofs.NextLines.{right-next, line-short, text-none, text-more}
-use Rattle.lines.proofs.Placing.{sets-append}
 
 -- ---- the scan by what find tells
 

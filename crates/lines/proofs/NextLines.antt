@@ -27,7 +27,7 @@ use Rattle.text.specs.TextLine.{shownBy, shownText, longestLine, rowFits, readi
 use Rattle.text.proofs.Longest.{MissedFits, shown-longest}
 use Rattle.scan.specs.Scan.{Scanned, passing, handing, holding}
 use Rattle.scan.specs.Carry.{steps, told}
-use Rattle.scan.proofs.CallsLaws.{and-true}
+use Rattle.integers.proofs.Booleans.{and-true}
 use Rattle.search.specs.Search.{isDatagram}
 use Rattle.search.proofs.ByteLists.{datagram-parts}
 use Rattle.session.specs.History.{awaitsFirst, historyNext}

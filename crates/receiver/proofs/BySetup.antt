@@ -15,12 +15,10 @@ use Rattle.wire.proofs.FieldBytes.{sensor-fields}
 use Rattle.motion.specs.Gaps.{gapAt}
 use Rattle.motion.specs.Totals.{keeps, groupsKept}
 use Rattle.motion.proofs.AcceptedSetup.{accepted-gap, accepted-kept}
-use Rattle.scan.specs.Scan.{Verdict}
 use Rattle.search.specs.Search.{verdictOf, verdictIn}
 use Rattle.search.proofs.Sensors.{verdict-sensor}
 use Rattle.session.specs.History.{historyNext}
 use Rattle.session.specs.declared.History.{History}
-use Rattle.receiver.specs.declared.Datagram.{Datagram}
 use Rattle.receiver.specs.Feed.{datagramWith, historyAfter, tell}
 
 -- the mark of one of the three groups

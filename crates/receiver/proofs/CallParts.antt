@@ -1,8 +1,8 @@
 -- Laws of one call of feed by its parts.
-use Prim.Native.Nat.{ℕ, _+_, _-_, _^_, _≤_, _<_}
+use Prim.Native.Nat.{ℕ, _+_, _-_, _≤_, _<_}
 use mathlib.Core.Path.{_≡_, refl, ap, _∙_}
 use mathlib.Core.Bool.{Bool, true, false}
-use mathlib.Core.List.{List, [], _∷_, _++_, map}
+use mathlib.Core.List.{List, [], _∷_, map}
 use native.Mathlib.Nat.{mul-le-mul-right}
 use native.Mathlib.Decide.{decLe}
 use native.Mathlib.Omega.{arith}
@@ -20,13 +20,13 @@ use Rattle.scan.specs.Calls.{State, Fed, feed, refusing}
 use Rattle.scan.specs.Calls.Answer.{refused}
 use Rattle.scan.specs.Carry.{carrying}
 use Rattle.scan.proofs.CallsLaws.{feed-unsound, feed-over, feed-past}
-use Rattle.search.specs.Search.{limitsOf, rulesOf, verdictOf}
+use Rattle.search.specs.Search.{limitsOf, rulesOf}
 use Rattle.search.proofs.Datagrams.{lawful}
 use Rattle.session.specs.Session.{heldBytes, isSound, pieceRuling}
 use Rattle.session.specs.declared.Session.{Session}
-use Rattle.session.proofs.Soundness.{Facts, sound-facts}
+use Rattle.session.proofs.Soundness.{Facts}
 use Rattle.receiver.specs.Feed.{consumer, stateOf, replyBy, replyOf, refusal, feedBy, feedOf}
-use Rattle.receiver.proofs.Refinement.{count-held, facts-safe}
+use Rattle.receiver.proofs.Refinement.{count-held}
 use Rattle.receiver.specs.CallParts.{contentsWith, replyAfter, replyAtOnce, Room}
 
 -- ---- a datagram as it comes back

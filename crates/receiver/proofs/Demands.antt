@@ -3,7 +3,7 @@
 use Prim.Native.Nat.{ℕ, suc, _+_, _*_, _^_, _≤_, _<_}
 use mathlib.Core.Path.{_≡_, refl, sym, ap, _∙_, subst}
 use mathlib.Core.Bool.{Bool, true, cond}
-use mathlib.Core.List.{List, [], _∷_}
+use mathlib.Core.List.{List, []}
 use native.Mathlib.Omega.{arith}
 use lib.Ieee.{Float}
 use lib.Ieee.Exact.{HasValue}
@@ -11,6 +11,7 @@ use lib.IntN.{ℤ, pos, natAbs, _-ℤ_, _*ℤ_}
 use lib.Seq.{length-take-le}
 use lib.ListN.{length, take, getD, length-map}
 use Rattle.integers.proofs.Folding.{abs-of-range}
+use Rattle.integers.proofs.Buffers.{padded-front}
 use Rattle.setup.specs.Setup.{rulingOn, lengthOf}
 use Rattle.setup.specs.declared.Setup.{Setup}
 use Rattle.setup.specs.declared.Ruling.the-variants.{Accepted}
@@ -35,8 +36,7 @@ use Rattle.scan.proofs.RunLaws.{ready, always-run, always-delivered, run-one, f
 use Rattle.scan.proofs.StreamLaws.{every-stream, reports-no-ten}
 use Rattle.scan.proofs.OneLength.{joined-length, scan-bare}
 use Rattle.search.specs.Search.{isDatagram, limitsOf, rulesOf, verdictOf}
-use Rattle.search.proofs.ByteLists.{datagram-parts}
-use Rattle.search.proofs.Datagrams.{datagram-length, datagram-least, lawful, prompt}
+use Rattle.search.proofs.Datagrams.{datagram-length, datagram-least, lawful, prompt, datagram-parts}
 use Rattle.motion.specs.Totals.{noAxis}
 use Rattle.session.specs.History.{noHistory}
 use Rattle.session.specs.declared.History.{History}
@@ -56,7 +56,6 @@ use Rattle.receiver.proofs.Agreement.{Like, StateRun, run-of-states, ru
 use Rattle.receiver.proofs.EachCall.{not-refused, call-kept}
 use Rattle.receiver.proofs.OneLength.{undecided-held, handed-last, empty-call}
 use Rattle.receiver.proofs.CallParts.{fed-unsound, fed-over, fed-past}
-use Rattle.session.proofs.Padding.{padded-front}
 use Rattle.receiver.proofs.ContainedAt.{carried-datagrams, contained-at}
 use Rattle.receiver.proofs.AxisAt.{after-ruled, axisThen, total-then, double-then, then-bound, sighting-at, sightings-length, independent}
 

@@ -22,8 +22,7 @@ use Rattle.session.specs.History.{noHistory, historyNext}
 use Rattle.session.specs.declared.History.{History}
 use Rattle.receiver.specs.Feed.{historyAfter, historyRight, consumer}
 use Rattle.session.proofs.AxisLaws.{axes-step, none-right}
-use Rattle.search.proofs.ByteLists.{datagram-parts}
-use Rattle.search.proofs.Datagrams.{datagram-length}
+use Rattle.search.proofs.Datagrams.{datagram-length, datagram-parts}
 use Rattle.receiver.proofs.BySetup.{after-datagram}
 use Rattle.receiver.proofs.Refinement.{history-parts, parts-history}
 

@@ -9,17 +9,17 @@ use borrow.Author.Tests.{eqb-true, eq-eqb}
 use lib.Dec.{eqb}
 use lib.ListN.{length, drop, replicate, length-append, length-drop, take-append-drop}
 use lib.Seq.{length-take-le}
-use Rattle.integers.proofs.Ranges.{and-split}
+use Rattle.integers.specs.Buffers.{padded}
+use Rattle.integers.proofs.Booleans.{and-split, and-true}
+use Rattle.integers.proofs.Buffers.{padded-front, padded-rest}
 use Rattle.setup.specs.Setup.{rulingOn, lengthOf}
 use Rattle.setup.specs.declared.Setup.{Setup}
 use Rattle.setup.specs.declared.Ruling.the-variants.{Accepted}
-use Rattle.scan.proofs.CallsLaws.{and-true}
 use Rattle.scan.proofs.RunLaws.{Safe}
 use Rattle.search.specs.Search.{rulesOf}
-use Rattle.session.specs.Session.{heldBytes, allZero, axesRight, isSound, padded}
+use Rattle.session.specs.Session.{heldBytes, allZero, axesRight, isSound}
 use Rattle.session.specs.declared.History.{History}
 use Rattle.session.specs.declared.Session.{Session}
-use Rattle.session.proofs.Padding.{padded-front, padded-rest}
 use Rattle.receiver.specs.Feed.{historyRight, consumer, SessionState, stateOf, sessionOf}
 use Rattle.session.proofs.Soundness.{Facts, sound-facts, facts-sound}
 

@@ -8,7 +8,7 @@ use mathlib.Core.List.{List, [], _∷_, _++_, map}
 use native.Mathlib.Omega.{arith}
 use lib.IntN.{ℤ, pos}
 use lib.ListN.{getD, replicate}
-use Rattle.integers.specs.Bytes.{bigEndian, twosComplement, signedBytes}
+use Rattle.integers.specs.Bytes.{areBytes, bigEndian, twosComplement, signedBytes}
 use Rattle.integers.specs.Folding.{fold}
 use Rattle.crc.specs.Check.{stim300, shift, shifts, byteStep, register, padding, covered, checkOf, check32}
 use Rattle.setup.specs.Layout.{partsAt, layoutOf, groupsCarried}
@@ -28,7 +28,7 @@ use Rattle.scan.specs.Carry.{told}
 use Rattle.scan.specs.Stream.{outcome, reports, stream, Among}
 use Rattle.scan.proofs.AmongLaws.{scan-among}
 use Rattle.scan.proofs.OneLength.{scan-bare}
-use Rattle.search.specs.Search.{areBytes, isDatagram, limitsOf, rulesOf, verdictOf}
+use Rattle.search.specs.Search.{isDatagram, limitsOf, rulesOf, verdictOf}
 use Rattle.search.proofs.Datagrams.{lawful, prompt}
 use Rattle.session.specs.History.{historyNext}
 use Rattle.session.specs.declared.Session.{Session}

@@ -28,7 +28,6 @@ use Rattle.session.specs.Session.{heldBytes, isSound, opening}
 use Rattle.session.specs.declared.Session.{Session}
 use Rattle.receiver.specs.declared.Datagram.{Datagram}
 use Rattle.receiver.specs.declared.Answer.the-variants.{Refused}
-use Rattle.receiver.specs.declared.Reply.{Reply}
 use Rattle.receiver.specs.Feed.{consumer, noDatagram, refusal, feedOf, Calls}
 use Rattle.receiver.specs.OneLength.{OneLength}
 

@@ -1,26 +1,21 @@
 -- Laws of one call: what it takes and finds, what it leaves held, what is refused, the byte sum.
 -- Assumes nothing.
-use Prim.Native.Nat.{ℕ, zero, suc, _+_, _-_, _≤_, _<_}
+use Prim.Native.Nat.{ℕ, zero, suc, _+_, _≤_, _<_}
 use mathlib.Core.Path.{_≡_, refl, sym, ap, _∙_, subst}
-use mathlib.Core.Bool.{Bool, true, false, _&&_}
+use mathlib.Core.Bool.{Bool, true, false}
 use mathlib.Core.List.{List, [], _∷_, _++_, append-assoc, append-nil}
-use native.Mathlib.Nat.{add-zero}
 use native.Mathlib.Decide.{decLe}
 use native.Mathlib.Omega.{arith}
-use borrow.Author.Tests.{eqb-true, leb-true, eq-eqb, le-leb, lt-leb}
-use lib.Dec.{eqb, leb}
-use lib.ListN.{length, take, drop, length-append, length-drop, take-append-drop}
-use lib.Seq.{length-take-le, take-length}
-use Rattle.integers.proofs.Ranges.{and-split}
+use borrow.Author.Tests.{eq-eqb, le-leb, lt-leb}
+use lib.ListN.{length, take, drop, length-append, take-append-drop}
+use lib.Seq.{length-take-le}
+use Rattle.integers.proofs.Booleans.{and-true}
 use Rattle.scan.specs.Scan.{Verdict, First, ends, finds, later, first, Undecided, Stable}
 use Rattle.scan.specs.Rules.{Rules, verdict, Lawful}
 use Rattle.scan.specs.Calls.{State, fresh, sound, Answer, waiting, refused, Fed, refusing}
 use Rattle.scan.specs.Calls.{unlessFound, answered, after, taking, takes, call, feed}
 use Rattle.scan.proofs.ScanLaws.{first-append, onward, parted-at}
 use Rattle.scan.proofs.AmongLaws.{stable}
-
-pub and-true : {a b : Bool} → a ≡ true → b ≡ true → a && b ≡ true
-and-true p q = rw (p, q)
 
 pub no-both : {f : First} {n m : ℕ} {h d r : List ℕ} {A : Type 0} → f ≡ ends n h → f ≡ finds m d r → A
 no-both p q = absurd (let z : _≡_ {A = ℕ} 0 1 = cc in omega arith)

@@ -8,7 +8,7 @@ use native.Mathlib.Omega.{arith}
 use borrow.Author.Tests.{eqb-true}
 use lib.Dec.{eqb}
 use lib.ListN.{length, getD}
-use Rattle.integers.proofs.Ranges.{and-split}
+use Rattle.integers.proofs.Booleans.{and-split}
 use Rattle.scan.specs.Scan.{scanFrom, scan, first}
 use Rattle.scan.specs.Front.{front}
 use Rattle.scan.specs.Rules.{Limits, Rules, verdict}

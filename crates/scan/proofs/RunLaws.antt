@@ -9,6 +9,7 @@ use native.Mathlib.Nat.{zero-add, add-zero}
 use native.Mathlib.Omega.{arith}
 use lib.ListN.{length, take, drop, length-append, length-drop, take-append-drop}
 use lib.Seq.{length-take-le, take-length}
+use Rattle.integers.proofs.Booleans.{and-true}
 use Rattle.scan.specs.Scan.{Scanned, scan, holding, passing, handing, First, ends, finds, first, Undecided}
 use Rattle.scan.specs.Rules.{Rules, verdict, Lawful}
 use Rattle.scan.specs.Calls.{State, Answer, datagram, waiting, refused, Fed, refusing, taking, takes, call, feed}
@@ -17,7 +18,7 @@ use Rattle.scan.specs.Stream.{joined, outcome, reports, stream, Bare}
 use Rattle.scan.specs.Carry.{Consumer, tells, told, carriedAfter, Session, freshSession, soundSession, carrying, feedSession, SessionRun}
 use Rattle.scan.specs.Carry.{Invariant, plain, Delivered}
 use Rattle.scan.proofs.ScanLaws.{scan-waits, scan-ends, scan-finds, Parted, parted-at}
-use Rattle.scan.proofs.CallsLaws.{and-true, Sound, parts-sound, View, over, past, made, view, fresh-sound, feed-sound, takes-le, takes-all}
+use Rattle.scan.proofs.CallsLaws.{Sound, parts-sound, View, over, past, made, view, fresh-sound, feed-sound, takes-le, takes-all}
 use Rattle.scan.proofs.StreamLaws.{outcome-over, outcome-past, outcome-taken, rest-taken}
 use Rattle.scan.proofs.StreamLaws.{stream-down, reports-down, stream-whole, reports-whole, stream-rest, reports-rest}
 use Rattle.scan.proofs.FrontLaws.{hands-acceptable}

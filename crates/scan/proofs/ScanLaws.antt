@@ -6,7 +6,7 @@ use mathlib.Core.List.{List, [], _∷_, _++_}
 use native.Mathlib.Nat.{zero-add, add-assoc}
 use native.Mathlib.Numerals.{one-add}
 use native.Mathlib.Omega.{arith}
-use lib.ListN.{length, take, drop, length-append, length-drop}
+use lib.ListN.{length, take, drop, length-drop}
 use lib.Seq.{take-append-le, drop-append-le, length-take-le, take-at, drop-at}
 use Rattle.scan.specs.Scan.{Verdict, waits, passes, hands, Scanned, holding, passing, handing, decided, scanFrom, scan}
 use Rattle.scan.specs.Scan.{First, ends, finds, later, firstBy, first, Undecided, Stable}

@@ -9,7 +9,7 @@ use native.Mathlib.Omega.{arith}
 use borrow.Author.Tests.{le-leb, lt-leb}
 use lib.ListN.{length, drop, length-append, length-drop}
 use Rattle.scan.specs.Rules.{Limits}
-use Rattle.scan.specs.Calls.{takenWhole, turnedDown, Outcome, Report, taking-more}
+use Rattle.scan.specs.Calls.{takenWhole, turnedDown, Report, taking-more}
 use Rattle.scan.specs.Stream.{outcome, takenBy, joined, reports, NoTen, stream}
 
 module _ (L : Limits) (n k : ℕ) where

@@ -6,7 +6,7 @@ use mathlib.Core.Bool.{Bool, true, cond, _&&_}
 use mathlib.Core.List.{List, [], _∷_}
 use lib.Dec.{eqb, ltb}
 use lib.ListN.{length}
-use Rattle.scan.specs.Scan.{Verdict, waits, hands, Undecided}
+use Rattle.scan.specs.Scan.{waits, hands, Undecided}
 use Rattle.scan.specs.Rules.{Limits, Rules, verdict}
 
 module _ (identifier size : ℕ) where

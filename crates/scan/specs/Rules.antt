@@ -5,7 +5,7 @@ use mathlib.Core.Path.{_≡_}
 use mathlib.Core.Bool.{Bool, true}
 use mathlib.Core.List.{List, [], _∷_, _++_}
 use lib.ListN.{length}
-use Rattle.scan.specs.Scan.{Verdict, First, finds, first, Undecided}
+use Rattle.scan.specs.Scan.{Verdict, finds, first, Undecided}
 use Rattle.scan.specs.Front.{front, Shaped}
 
 -- The most bytes of a piece, the number that refuses a longer one, the most bytes of a session (01, What is turned down, 10 to 12)

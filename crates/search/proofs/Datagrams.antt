@@ -1,22 +1,36 @@
--- The rules of an accepted setup belong together; its datagrams have one identifier and one length.
+-- What is known of a datagram of a setup: bytes of one length that begin with one identifier. The rules of an accepted setup belong together.
 use Prim.Native.Nat.{ℕ, _≤_}
 use mathlib.Core.Path.{_≡_}
 use mathlib.Core.Bool.{true}
 use mathlib.Core.List.{List}
 use native.Mathlib.Omega.{arith}
 use lib.ListN.{length, getD}
+use Rattle.integers.specs.Bytes.{AllBytes, areBytes}
+use Rattle.integers.proofs.Booleans.{and-split}
+use Rattle.integers.proofs.Bytes.{areBytes-all, all-areBytes}
 use Rattle.setup.specs.Setup.{rulingOn, lengthOf}
 use Rattle.setup.specs.declared.Setup.{Setup}
 use Rattle.setup.specs.declared.Ruling.the-variants.{Accepted}
 use Rattle.setup.proofs.Refusals as refusals
+use Rattle.wire.specs.Acceptable.{acceptable}
 use Rattle.wire.proofs.Acceptance.{accepted, accepted-length}
 use Rattle.scan.specs.Rules.{Lawful}
 use Rattle.scan.specs.OneLength.{Prompt}
 use Rattle.scan.proofs.OneLength.{one-length-lawful, one-length-prompt}
 use Rattle.search.specs.Search.{isDatagram, limitsOf, rulesOf}
-use Rattle.search.proofs.ByteLists.{datagram-parts}
 
--- a datagram has the setup's length and begins with its identifier
+module _ (u : Setup) (d : List ℕ) where
+  -- a datagram is bytes, and acceptable
+  pub datagram-parts : isDatagram u d ≡ true → AllBytes d × (acceptable u d ≡ true)
+  unfolding isDatagram
+  datagram-parts e = let k = and-split (areBytes d) (acceptable u d) e in (areBytes-all d (k .0), k .1)
+
+  -- of bytes only the content decides
+  pub bytes-datagram : AllBytes d → isDatagram u d ≡ acceptable u d
+  unfolding isDatagram
+  bytes-datagram h = rw (all-areBytes d h)
+
+-- it has the setup's length and begins with its identifier
 module _ (u : Setup) (d : List ℕ) (good : isDatagram u d ≡ true) where
   pub datagram-length : length d ≡ lengthOf u
   datagram-length = accepted u d (datagram-parts u d good .1) .long

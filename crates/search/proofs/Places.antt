@@ -1,11 +1,11 @@
 -- What the place where the scan stops tells of the scan, for an accepted setup.
-use Prim.Native.Nat.{ℕ, _+_, _-_, _≤_, _<_}
+use Prim.Native.Nat.{ℕ, _+_, _≤_, _<_}
 use mathlib.Core.Path.{_≡_, refl, sym, ap, _∙_}
 use mathlib.Core.Bool.{true}
 use mathlib.Core.List.{List}
 use native.Mathlib.Omega.{arith}
 use lib.ListN.{length, take, drop, length-drop}
-use lib.Seq.{take-all, length-take-le}
+use lib.Seq.{length-take-le}
 use Rattle.setup.specs.Setup.{rulingOn, lengthOf}
 use Rattle.setup.specs.declared.Setup.{Setup}
 use Rattle.setup.specs.declared.Ruling.the-variants.{Accepted}
@@ -16,16 +16,6 @@ use Rattle.scan.proofs.AmongLaws.{stable}
 use Rattle.search.specs.declared.Place.the-variants.{Complete, Undecided}
 use Rattle.search.specs.Search.{candidateOf, isDatagram, rulesOf, verdictOf, placeOf}
 use Rattle.search.proofs.Datagrams.{datagram-length, lawful}
-
--- a part of a slice to its end
-pub to-end : (p : List ℕ) (i : ℕ) → take (length p - i) (drop i p) ≡ drop i p
-to-end p i = take-all (length p - i) (drop i p) (omega (arith, length-drop i p))
-
--- a part of n bytes from a place on
-pub part-of : (p : List ℕ) (i n : ℕ) → take (i + n - i) (drop i p) ≡ take n (drop i p)
-part-of p i n =
-    let e : i + n - i ≡ n = omega arith in
-    ap (λ (m : ℕ). take m (drop i p)) e
 
 -- the scan of p stops at a datagram of the setup, which begins at `at` and has that size
 pub record IsComplete (u : Setup) (p : List ℕ) (at size : ℕ) : Type 0 where

@@ -1,9 +1,10 @@
 -- The scan by the sensor that an accepted setup describes is the scan of the setup.
 use Prim.Native.Nat.{ℕ}
-use mathlib.Core.Path.{_≡_, sym, ap}
-use mathlib.Core.Bool.{Bool, _&&_}
+use mathlib.Core.Path.{_≡_, sym}
+use mathlib.Core.Bool.{_&&_}
 use mathlib.Core.List.{List}
-use Rattle.integers.specs.Bytes.{AllBytes}
+use Rattle.integers.specs.Bytes.{AllBytes, areBytes}
+use Rattle.integers.proofs.Bytes.{all-areBytes}
 use Rattle.setup.specs.Setup.{rulingOn}
 use Rattle.setup.specs.Sensor.{sensorOf}
 use Rattle.setup.specs.Layout.{layoutOf}
@@ -13,11 +14,9 @@ use Rattle.setup.specs.declared.Ruling.the-variants.{Accepted}
 use Rattle.setup.proofs.Sensors.{sensor-length}
 use Rattle.wire.specs.Acceptable.{acceptableIn}
 use Rattle.wire.proofs.Acceptance.{sensor-acceptable}
-use Rattle.scan.specs.Scan.{Verdict}
 use Rattle.scan.specs.Front.{front}
 use Rattle.scan.specs.OneLength.{oneCandidate}
-use Rattle.search.specs.Search.{areBytes, isDatagram, verdictOf, isDatagramIn, sizeIn, verdictIn}
-use Rattle.search.proofs.ByteLists.{all-areBytes}
+use Rattle.search.specs.Search.{isDatagram, verdictOf, isDatagramIn, verdictIn}
 
 -- of bytes only the content decides
 pub bytes-sensor : (s : Sensor) (d : List ℕ) → AllBytes d → isDatagramIn s d ≡ acceptableIn (s .identifier) (layoutOf (s .row) (s .terminated)) d

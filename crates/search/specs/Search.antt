@@ -1,9 +1,9 @@
 -- 01, The scan, of the datagrams of a setup.
 use Prim.Native.Nat.{ℕ, _^_}
-use mathlib.Core.Bool.{Bool, true, _&&_}
-use mathlib.Core.List.{List, [], _∷_}
-use lib.Dec.{ltb}
+use mathlib.Core.Bool.{Bool, _&&_}
+use mathlib.Core.List.{List}
 use lib.ListN.{length}
+use Rattle.integers.specs.Bytes.{areBytes}
 use Rattle.setup.specs.Setup.{lengthOf}
 use Rattle.setup.specs.declared.Setup.{Setup}
 use Rattle.setup.specs.Layout.{layoutOf, lengthIn}
@@ -15,11 +15,6 @@ use Rattle.scan.specs.Rules.{Limits, Rules, verdict}
 use Rattle.scan.specs.OneLength.{oneCandidate, heldRule}
 use Rattle.search.specs.declared.Place.{Place}
 use Rattle.search.specs.declared.Place.the-variants.{Complete, Undecided}
-
--- every element is a byte
-unfoldable pub areBytes : List ℕ → Bool
-areBytes [] = true
-areBytes (b ∷ s) = ltb b 256 && areBytes s
 
 -- a datagram begins with the setup's identifier, and then has the setup's length
 abbrev pub candidateOf : Setup → ℕ → ℕ

@@ -10,7 +10,8 @@ use lib.ListN.{getD}
 use borrow.Author.Tests.{not-true}
 use Rattle.integers.specs.Ranges.{isZero}
 use Rattle.integers.proofs.Folding.{InRange}
-use Rattle.integers.proofs.Ranges.{and-split, within-true, le-within, inReading-true, range-inReading, isZero-true}
+use Rattle.integers.proofs.Ranges.{within-true, le-within, inReading-true, range-inReading, isZero-true}
+use Rattle.integers.proofs.Booleans.{and-split, and-true}
 use Rattle.setup.proofs.Refusals.{each}
 use Rattle.motion.specs.declared.Axis.{Axis}
 use Rattle.motion.specs.declared.GroupAxes.{GroupAxes}
@@ -18,7 +19,6 @@ use Rattle.motion.specs.declared.Axes.{Axes}
 use Rattle.motion.specs.Totals.{Sighting, noAxis, noGroup, noAxes, keptStep, seen, stepped, axisIn, axisAt}
 use Rattle.motion.proofs.NineAxes.{step-at}
 use Rattle.motion.proofs.Bounds.{step-bound, last-range, not-begun, step-not-kept}
-use Rattle.scan.proofs.CallsLaws.{and-true}
 use Rattle.session.specs.Session.{totalRight, lastRight, isIdle, idleRight, axisRight, groupRight, axesRightBy}
 
 -- ---- one axis

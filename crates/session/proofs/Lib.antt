@@ -4,4 +4,3 @@ pub mod AxisLaws
 pub mod Soundness
 pub mod PieceRulings
 pub mod Opening
-pub mod Padding

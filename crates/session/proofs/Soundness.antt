@@ -9,12 +9,11 @@ use lib.Dec.{eqb, leb, ltb, eqb·suc-zero}
 use lib.ListN.{length, take, drop, getD}
 use lib.Seq.{length-take-le}
 use borrow.Author.Tests.{eqb-true, eq-eqb, leb-true, le-leb}
-use Rattle.integers.proofs.Ranges.{and-split}
+use Rattle.integers.proofs.Booleans.{and-split, and-true}
 use Rattle.setup.specs.Setup.{rulingOn, lengthOf}
 use Rattle.setup.specs.declared.Ruling.{Ruling}
 use Rattle.setup.specs.declared.Ruling.the-variants.{Accepted, Refused}
 use Rattle.scan.specs.OneLength.{heldRule}
-use Rattle.scan.proofs.CallsLaws.{and-true}
 use Rattle.search.specs.Search.{limitsOf, rulesOf}
 use Rattle.session.specs.declared.Session.{Session}
 use Rattle.session.specs.Session.{isAccepted, setupRight, heldBytes, heldRight, allZero, restRight, sumRight, fedRight, axesRight, isSound}

@@ -1,9 +1,10 @@
 -- 01, The scan: a fresh session; What is turned down: 4 to 9 of opening, and 10 of feeding, clause by clause.
-use Prim.Native.Nat.{ℕ, _+_, _*_, _^_, _-_}
+use Prim.Native.Nat.{ℕ, _+_, _*_, _^_}
 use mathlib.Core.Bool.{Bool, true, false, not, _&&_, _||_}
-use mathlib.Core.List.{List, [], _∷_, _++_}
+use mathlib.Core.List.{List, [], _∷_}
 use lib.Dec.{eqb, leb, ltb}
-use lib.ListN.{length, take, drop, getD, replicate}
+use lib.ListN.{length, take, drop, getD}
+use Rattle.integers.specs.Buffers.{padded}
 use Rattle.integers.specs.Ranges.{isZero, within, inReading}
 use Rattle.setup.specs.Setup.{Rule, rule, firstOf, rulingOn, zeroSetup, lengthOf}
 use Rattle.setup.specs.Sensor.{sensorOf}
@@ -27,11 +28,7 @@ use Rattle.session.specs.declared.Admission as admission
 
 -- ---- a fresh session, and opening
 
--- bytes with zeros behind them, n in all: so the held bytes stand in their array
-abbrev pub padded : ℕ → List ℕ → List ℕ
-padded n l = l ++ replicate (n - length l) 0
-
--- a session of its parts: the setup, what it keeps of the datagrams, the bytes passed over and fed, the bytes held
+-- a session of its parts: the setup, what it keeps of the datagrams, the bytes passed over and fed, the bytes held with zeros behind them
 abbrev pub sessionWith : Setup → History → ℕ → ℕ → List ℕ → Session
 sessionWith u h passed fed held = record { setup = u; held = padded 64 held; count = length held; passed = passed; fed = fed; history = h }
 

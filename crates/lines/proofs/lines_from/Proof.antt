@@ -6,10 +6,11 @@ use native.Mathlib.Omega.{arith}
 use borrow.Author.Needs.{needs}
 use lib.ListN.{length, take, drop, length-drop}
 use lib.Seq.{sets}
+use Rattle.integers.proofs.Buffers.{to-end, part-of}
 use Rattle.scan.specs.Scan.{first}
 use Rattle.search.specs.Search.{isDatagram, verdictOf, placeOf}
 use Rattle.search.proofs.Datagrams.{datagram-least}
-use Rattle.search.proofs.Places.{to-end, part-of, IsComplete, IsUndecided, found-complete, found-undecided}
+use Rattle.search.proofs.Places.{IsComplete, IsUndecided, found-complete, found-undecided}
 use Rattle.lines.specs.declared.Progress.{Progress}
 use Rattle.lines.specs.PieceParts.{nextLine, nextOf, Ready, Finished}
 use Rattle.lines.proofs.LoopInvariant.{Invariant, invariant-start, complete-within, complete-long, invariant-next, undecided-within}

@@ -9,8 +9,7 @@ use lib.ListN.{length, take, drop, length-drop}
 use Rattle.text.specs.TextLine.{shownText}
 use Rattle.text.specs.declared.Written.the-variants.{Line}
 use Rattle.text.proofs.LineLaws.{shown-tells, shown-front, shown-enough}
-use Rattle.search.proofs.Places.{to-end}
-use Rattle.lines.proofs.Placing.{put-part}
+use Rattle.integers.proofs.Buffers.{to-end, put-part}
 use Rattle.lines.proofs.put_behind.Statement.{statement}
 use Rattle.lines.proofs.put_behind.Tie as tie
 

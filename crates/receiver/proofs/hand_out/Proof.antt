@@ -1,7 +1,5 @@
 -- `receiver::hand_out` meets its contract. Assumes nothing.
-use mathlib.Core.Path.{ap, _∙_}
 use native.Mathlib.Omega.{arith}
-use Rattle.setup.specs.declared.Sensor.{Sensor}
 use Rattle.session.proofs.HistoryLaws.{advanced-next}
 use Rattle.receiver.specs.Feed.{historyAfter, tell}
 use Rattle.receiver.specs.CallParts.{replyAfter}

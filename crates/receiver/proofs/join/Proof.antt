@@ -5,8 +5,8 @@ use mathlib.Core.List.{List, []}
 use native.Mathlib.Omega.{arith}
 use lib.ListN.{length}
 use lib.Seq.{sets}
-use Rattle.session.proofs.Padding.{padded-sets}
 use borrow.Author.Needs.{needs}
+use Rattle.integers.proofs.Buffers.{padded-sets}
 use Rattle.receiver.proofs.join.Statement.{statement}
 use Rattle.receiver.proofs.join.Tie as tie
 

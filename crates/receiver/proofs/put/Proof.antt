@@ -4,7 +4,7 @@ use mathlib.Core.Path.{_≡_, refl, ap, _∙_}
 use native.Mathlib.Omega.{arith}
 use lib.ListN.{length, take}
 use lib.Seq.{take-all, sets}
-use Rattle.session.proofs.Padding.{sets-more}
+use Rattle.integers.proofs.Buffers.{sets-more}
 use Rattle.receiver.proofs.put.Statement.{statement}
 use Rattle.receiver.proofs.put.Tie as tie
 

@@ -5,14 +5,14 @@ use mathlib.Core.List.{List, _++_}
 use native.Mathlib.Omega.{arith}
 use lib.ListN.{length, take, drop, length-append, length-drop}
 use lib.Seq.{length-take-le, take-all}
+use Rattle.integers.proofs.Buffers.{to-end, part-of, padded-front}
 use Rattle.setup.proofs.Refusals.{accepted-length}
 use Rattle.scan.specs.Scan.{Verdict, first, later}
 use Rattle.search.specs.Search.{verdictOf, verdictIn, placeOf}
-use Rattle.search.proofs.Places.{to-end, part-of, IsComplete, IsUndecided, complete-length, found-complete, found-undecided}
+use Rattle.search.proofs.Places.{IsComplete, IsUndecided, complete-length, found-complete, found-undecided}
 use Rattle.session.specs.Session.{heldBytes}
 use Rattle.receiver.specs.CallParts.{replyAtOnce}
 use Rattle.receiver.proofs.Joining.{complete-joined, complete-taken, undecided-joined}
-use Rattle.session.proofs.Padding.{padded-front}
 use Rattle.receiver.proofs.BySetup.{sensor-verdict}
 use Rattle.receiver.proofs.CallParts.{reply-found, reply-held, room-less}
 use borrow.Author.Needs.{needs}

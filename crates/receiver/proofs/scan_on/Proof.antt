@@ -4,10 +4,11 @@ use mathlib.Core.Path.{_≡_, sym, ap, _∙_}
 use mathlib.Core.List.{List}
 use native.Mathlib.Omega.{arith}
 use lib.ListN.{length, take, drop, length-drop}
+use Rattle.integers.proofs.Buffers.{to-end, part-of}
 use Rattle.setup.proofs.Refusals.{accepted-length}
 use Rattle.scan.specs.Scan.{Verdict, first, later}
 use Rattle.search.specs.Search.{verdictOf, verdictIn, placeOf}
-use Rattle.search.proofs.Places.{to-end, part-of, IsComplete, IsUndecided, found-complete, found-undecided}
+use Rattle.search.proofs.Places.{IsComplete, IsUndecided, found-complete, found-undecided}
 use Rattle.receiver.proofs.BySetup.{sensor-verdict}
 use Rattle.receiver.proofs.CallParts.{reply-found, reply-held, room-less}
 use borrow.Author.Needs.{needs}

@@ -1,7 +1,6 @@
 -- `receiver::session_behind` meets its contract. Assumes nothing.
 use mathlib.Core.Path.{ap, _∙_}
-use mathlib.Core.List.{List}
-use Prim.Native.Nat.{ℕ, _+_}
+use Prim.Native.Nat.{_+_}
 use lib.Seq.{take-all}
 use Rattle.session.specs.Session.{sessionWith}
 use borrow.Author.Needs.{needs}

@@ -11,6 +11,7 @@ use lib.ListN.{length, take, drop, length-drop, drop-of-length-le}
 use lib.Seq.{length-take-le}
 use Rattle.integers.specs.Bytes.{AllBytes}
 use Rattle.integers.proofs.Bytes.{bytes-take, bytes-drop}
+use Rattle.integers.proofs.Buffers.{part-of}
 use Rattle.setup.specs.Layout.{layoutOf}
 use Rattle.setup.specs.declared.Sensor.{Sensor}
 use Rattle.setup.proofs.Layouts.{length-range}
@@ -24,7 +25,6 @@ use Rattle.scan.specs.Rules.{Rules}
 use Rattle.scan.specs.OneLength.{oneLength}
 use Rattle.search.specs.Search.{isDatagramIn, sizeIn, verdictIn, placeOf}
 use Rattle.search.proofs.Sensors.{bytes-sensor}
-use Rattle.search.proofs.Places.{part-of}
 use Rattle.search.proofs.find.Statement.{statement}
 use Rattle.search.proofs.find.Tie as tie
 

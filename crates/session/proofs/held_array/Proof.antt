@@ -4,8 +4,8 @@ use mathlib.Core.Path.{_≡_, refl, ap, _∙_}
 use native.Mathlib.Omega.{arith}
 use lib.ListN.{length, take}
 use borrow.Author.Needs.{needs}
-use Rattle.session.specs.Session.{padded}
-use Rattle.session.proofs.Padding.{padded-more, take-least}
+use Rattle.integers.specs.Buffers.{padded}
+use Rattle.integers.proofs.Buffers.{padded-more, take-least}
 use Rattle.session.proofs.held_array.Statement.{statement}
 use Rattle.session.proofs.held_array.Tie as tie
 

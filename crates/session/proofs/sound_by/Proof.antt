@@ -6,7 +6,7 @@ use native.Mathlib.Omega.{arith}
 use lib.Dec.{leb}
 use lib.ListN.{length}
 use borrow.Author.Tests.{not-true, not-false, leb-true}
-use Rattle.integers.proofs.Ranges.{and-split}
+use Rattle.integers.proofs.Booleans.{and-split}
 use Rattle.setup.specs.Layout.{layoutOf, lengthIn}
 use Rattle.setup.specs.Setup.{lengthOf}
 use Rattle.setup.specs.Sensor.{sensorOf}
