@@ -7,6 +7,7 @@ use borrow.Author.Tests.{not-true, not-false, lt-ltb, le-ltb}
 use Rattle.search.specs.Search.{limitsOf}
 use Rattle.session.specs.Session.{asStruct, isSound, pieceRuling, admissionOf}
 use Rattle.session.specs.declared.Limits.{Limits}
+use Rattle.session.specs.declared.Admission as admission
 use Rattle.session.proofs.Soundness.{sound-facts}
 use borrow.Author.Needs.{needs}
 use Rattle.session.proofs.admit_by.Statement.{statement}
@@ -76,8 +77,8 @@ returns-4 c =
       sound (l .before .before),
       le-ltb _ _ (few (c .before .before .before)),
       le-ltb (limitsOf (a .session .setup) .session) (a .session .fed + a .length) (omega (arith, session-limit l, c .if3 .left)),
-      s .pre .1,
     )
+    (ap admission.the-variants.Admitted (s .pre .1))
 
 pub admit-by-spec : {M : Type 1} → statement M
 admit-by-spec =
