@@ -11,14 +11,15 @@ use lib.ListN.{getD, replicate}
 use Rattle.integers.specs.Bytes.{bigEndian, twosComplement, signedBytes}
 use Rattle.integers.specs.Folding.{fold}
 use Rattle.crc.specs.Check.{stim300, shift, shifts, byteStep, register, padding, covered, checkOf, check32}
-use Rattle.setup.specs.Layout.{partsAt, layoutOf, groupsCarried}
+use Rattle.setup.specs.Layout.{partsOf, rowAt, partsAt, groupsCarried}
 use Rattle.setup.specs.Setup.{setupRules, rulingOn, lengthOf}
+use Rattle.setup.specs.Sensor.{rateOf, sensorOf}
 use Rattle.setup.specs.declared.Setup.{Setup}
 use Rattle.setup.specs.declared.Ruling.the-variants.{Accepted}
-use Rattle.wire.specs.Acceptable.{checkRight, endingRight, acceptable}
-use Rattle.wire.specs.Fields.{partsWithin, fieldsOfPart, fieldsOf}
+use Rattle.wire.specs.Acceptable.{checkRight, endingRight, acceptableIn, acceptable}
+use Rattle.wire.specs.Fields.{fieldsOfPart, contentsOf, fieldsOf}
 use Rattle.motion.specs.Status.{unfit}
-use Rattle.motion.specs.Gaps.{datagrams as count, knownRate, elapsed, missedAfter, gapAt}
+use Rattle.motion.specs.Gaps.{datagrams as count, elapsed, missedAfter, gapAt}
 use Rattle.motion.specs.declared.Gap.the-variants.{Missed}
 use Rattle.motion.specs.Totals.{keeps, totalAt, fitReadings, fitBefore, readingOf, CloseFrom, Close}
 use Rattle.scan.specs.Scan.{scanFrom, scan}
@@ -41,7 +42,7 @@ abbrev example : Setup
 example = record { rate = 1000; identifier = 0x90; termination = 0; units = 3 ∷ 0 ∷ 0 ∷ []; shifts = 21 ∷ 0 ∷ 0 ∷ [] }
 
 accepted-example : rulingOn example ≡ Accepted
-unfolding rulingOn setupRules layoutOf partsAt groupsCarried
+unfolding rulingOn setupRules rowAt partsAt partsOf groupsCarried
 accepted-example = refl
 
 -- gyro X 8388600, counter 8; X 12345 with bits 3 and 0 of the status set, so that X is unfit, counter 10; X -8388600, counter 14
@@ -79,7 +80,7 @@ reports-example = refl
 
 scan-example : scan (verdictOf example) (streamOf example pieces) .datagrams ≡ datagrams
 unfolding
-    stream outcome scanFrom front isDatagram areBytes acceptable checkRight endingRight lengthOf layoutOf partsAt bigEndian check32 checkOf stim300
+    stream outcome scanFrom front isDatagram areBytes acceptable acceptableIn checkRight endingRight lengthOf rowAt partsOf bigEndian check32 checkOf stim300
     covered padding register byteStep shifts shift
 scan-example = refl
 
@@ -95,22 +96,22 @@ abbrev angles : List ℤ
 angles = pos 8388600123 ∷ pos 8388616999 ∷ []
 
 carry-example : Carry 1000 (sightings example 0 0 datagrams) angles
-unfolding fitReadings readingOf fold twosComplement Close CloseFrom unfit fieldsOf partsWithin fieldsOfPart partsAt signedBytes bigEndian
+unfolding fitReadings readingOf fold twosComplement Close CloseFrom unfit fieldsOf fieldsOfPart partsAt partsOf signedBytes bigEndian
 carry-example = record { carried = refl; close = (omega arith, tt) }
 
 keeps-example : keeps example 0 ≡ true
-unfolding groupsCarried partsAt
+unfolding groupsCarried partsAt partsOf
 keeps-example = refl
 
 fit-example : sighting example 0 0 (getD datagrams 2 []) .fit ≡ true
-unfolding unfit fieldsOf partsWithin fieldsOfPart partsAt bigEndian
+unfolding unfit fieldsOf fieldsOfPart partsAt partsOf bigEndian
 fit-example = refl
 
 -- however these pieces are fed, the third answer stands for the change from T0 to T1
 example-stands :
     {os : List Datagram} {rs : List Report} {t : Session} → FedInTurn example pieces os rs t
     → Stands example 0 0 1000 (pos 8388600123) (pos 8388616999) (getD os 2 noDatagram)
-unfolding fitBefore fitReadings unfit fieldsOf partsWithin fieldsOfPart partsAt bigEndian
+unfolding fitBefore fitReadings unfit fieldsOf fieldsOfPart partsAt partsOf bigEndian
 example-stands {os} c =
     let r =
     demand3 example accepted-example .change c datagrams among-example 0 0 (omega arith) (omega arith) keeps-example 1000 (omega arith) angles
@@ -125,5 +126,5 @@ example-total c = example-stands c .exact
 
 -- at rate 1000 a datagram comes every 2 samples: the first has no gap, the third comes one datagram late
 example-gaps : map (λ (o : Datagram). o .gap) (answersFor example datagrams) ≡ Missed (count 0) ∷ Missed (count 0) ∷ Missed (count 1) ∷ []
-unfolding told tell historyAfter historyNext datagramWith gapAt knownRate elapsed missedAfter fieldsOf partsWithin fieldsOfPart partsAt bigEndian
+unfolding told tell historyAfter historyNext datagramWith gapAt elapsed missedAfter sensorOf rateOf contentsOf fieldsOfPart rowAt partsOf bigEndian
 example-gaps = refl
