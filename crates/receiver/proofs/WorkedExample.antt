@@ -13,7 +13,7 @@ use Rattle.integers.specs.Folding.{fold}
 use Rattle.crc.specs.Check.{stim300, shift, shifts, byteStep, register, padding, covered, checkOf, check32}
 use Rattle.setup.specs.Layout.{partsOf, rowAt, partsAt, groupsCarried}
 use Rattle.setup.specs.Setup.{setupRules, rulingOn, lengthOf}
-use Rattle.setup.specs.Sensor.{rateOf, sensorOf}
+use Rattle.setup.specs.Sensor.{rateOf, unitOf, sensorOf}
 use Rattle.setup.specs.declared.Setup.{Setup}
 use Rattle.setup.specs.declared.Ruling.the-variants.{Accepted}
 use Rattle.wire.specs.Acceptable.{checkRight, endingRight, acceptableIn, acceptable}
@@ -126,5 +126,5 @@ example-total c = example-stands c .exact
 
 -- at rate 1000 a datagram comes every 2 samples: the first has no gap, the third comes one datagram late
 example-gaps : map (λ (o : Datagram). o .gap) (answersFor example datagrams) ≡ Missed (count 0) ∷ Missed (count 0) ∷ Missed (count 1) ∷ []
-unfolding told tell historyAfter historyNext datagramWith gapAt elapsed missedAfter sensorOf rateOf contentsOf fieldsOfPart rowAt partsOf bigEndian
+unfolding told tell historyAfter historyNext datagramWith gapAt elapsed missedAfter sensorOf rateOf unitOf rowAt contentsOf fieldsOfPart partsOf bigEndian
 example-gaps = refl
