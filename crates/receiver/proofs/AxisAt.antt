@@ -15,11 +15,10 @@ use Rattle.setup.specs.declared.Setup.{Setup}
 use Rattle.setup.specs.declared.Ruling.the-variants.{Accepted}
 use Rattle.wire.specs.Fields.{fieldsOf}
 use Rattle.motion.specs.Doubles.{shiftIn}
-use Rattle.motion.specs.Totals.{groupsKept, noAxis, noAxes, Sighting, keptStep, keeps, axisAt, none, totalOf, totalAt, totalDouble, doubleAt, after}
+use Rattle.motion.specs.Totals.{groupsKept, noAxis, Sighting, keptStep, keeps, axisAt, none, totalOf, totalAt, totalDouble, doubleAt, after}
 use Rattle.motion.specs.declared.Axis.{Axis}
 use Rattle.motion.proofs.Bounds.{keptAfter, after-next, after-not-kept, after-within, after-bound}
-use Rattle.motion.proofs.NineAxes.{step-at, total-at, double-at}
-use Rattle.setup.proofs.Refusals.{each}
+use Rattle.motion.proofs.NineAxes.{step-at, none-at, total-at, double-at}
 use Rattle.scan.specs.Carry.{steps, carriedAfter}
 use Rattle.scan.proofs.CarryLaws.{told-at, told-beyond}
 use Rattle.session.specs.History.{noHistory, awaitsFirst, historyNext}
@@ -58,14 +57,6 @@ module _ (u : Setup) (group axis : ℕ) where
   sightings-length ds = length-map ds (sighting u group axis)
 
   module _ (ok : rulingOn u ≡ Accepted) (h : group < 3) (k : axis < 3) where
-    no-axis : axisAt noAxes group axis ≡ noAxis
-    no-axis =
-        each (λ (g : ℕ). axisAt noAxes g axis ≡ noAxis)
-        (each (λ (m : ℕ). axisAt noAxes 0 m ≡ noAxis) refl refl refl axis k)
-        (each (λ (m : ℕ). axisAt noAxes 1 m ≡ noAxis) refl refl refl axis k)
-        (each (λ (m : ℕ). axisAt noAxes 2 m ≡ noAxis) refl refl refl axis k)
-        group h
-
     -- the axis behind a datagram
     axis-next :
         (first : Bool) (x : History) (d : List ℕ)
@@ -104,7 +95,7 @@ module _ (u : Setup) (group axis : ℕ) where
           axis-next (awaitsFirst before) before d
           ∙ ap (λ (a : Axis). keptStep (keeps u group) a (sighting u group axis d))
           (axis-carried noHistory (take i ds)
-          ∙ ap (λ (a : Axis). keptAfter (keeps u group) a (sightings u group axis (take i ds))) no-axis
+          ∙ ap (λ (a : Axis). keptAfter (keeps u group) a (sightings u group axis (take i ds))) (none-at group axis h k)
           ∙ ap (keptAfter (keeps u group) noAxis) (sym (take-map (sighting u group axis) ds i)))
           ∙ ap (keptStep (keeps u group) (keptAfter (keeps u group) noAxis (take i s))) (sym (sighting-at ds i l))
           ∙ sym (after-next (keeps u group) noAxis s i (omega (arith, sightings-length ds)))

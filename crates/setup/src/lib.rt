@@ -1,9 +1,7 @@
 // The setup of a sensor: its values and the layout of its datagrams (01, The setup line, Layout by identifier).
 ghost use mathlib.Core.Path.{_≡_};
-ghost use mathlib.Core.Bool.{cond};
-ghost use Prim.Native.Nat.{_≤_};
-ghost use Rattle.setup.specs.Layout.{layoutOf, lengthIn, rowWith, rowAt, groupsOf, groupsCarried};
-ghost use Rattle.setup.specs.Setup.{rateListed, isListed, anyAbove, strayGroup, stray, rulingOn, lengthOf};
+ghost use Rattle.setup.specs.Layout.{rowWith, rowAt, groupsOf};
+ghost use Rattle.setup.specs.Setup.{rateListed, isListed, anyAbove, strayGroup, stray, rulingOn};
 ghost use Rattle.setup.specs.Sensor.{rateOf, unitOf, unitsOf, rowOf, sensorOf, descriptionOf};
 
 // What a datagram carries beside the gyro group, the counter and the latency (01, Layout by identifier).
@@ -199,17 +197,6 @@ fn groups_of(row: Row) -> [bool; 3]
     [true, row.acceleration, row.inclination]
 }
 
-// Which groups an identifier carries: gyro, accelerometer, inclinometer; none if it isn't in the table.
-pub fn groups_carried(identifier: u8) -> [bool; 3]
-    ensures { λ r. ⌜ r ≡ groupsCarried identifier ⌝ }
-{
-    let listing = row_of(identifier);
-    match listing {
-        Listing::Listed(row) => groups_of(row),
-        Listing::Unlisted => [false, false, false],
-    }
-}
-
 fn stray_group(carried: bool, unit: u16, shift: u16) -> bool
     ensures { λ r. ⌜ r ≡ strayGroup carried unit shift ⌝ }
 {
@@ -290,32 +277,5 @@ pub fn describe(setup: Setup) -> Described
     match ruling {
         Ruling::Accepted => Described::Accepted(sensor_of(setup, listed_row(listing))),
         Ruling::Refused(number) => Described::Refused(number),
-    }
-}
-
-fn if_carried(carried: bool, bytes: usize) -> usize
-    ensures { λ r. ⌜ (r ≡ cond carried bytes 0) × (r ≤ bytes) ⌝ }
-{
-    if carried { bytes } else { 0 }
-}
-
-fn length_by(row: Row, terminated: bool) -> usize
-    ensures { λ r. ⌜ r ≡ lengthIn (layoutOf row terminated) ⌝ }
-{
-    let groups = 14 + if_carried(row.acceleration, 10) + if_carried(row.inclination, 10);
-    let warm = if_carried(row.acceleration, 7) + if_carried(row.inclination, 7);
-    let before = groups + if_carried(row.temperatures, 7 + warm) + if_carried(row.aux, 4);
-    before + 4 + if_carried(terminated, 2)
-}
-
-// The length L of a datagram, 0 where the identifier isn't in the table.
-pub fn length_of(setup: Setup) -> usize
-    ensures { λ r. ⌜ r ≡ lengthOf setup ⌝ }
-{
-    let termination = setup.termination;
-    let listing = row_of(setup.identifier);
-    match listing {
-        Listing::Listed(row) => length_by(row, termination == 1),
-        Listing::Unlisted => 0,
     }
 }
