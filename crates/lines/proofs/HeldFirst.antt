@@ -172,6 +172,11 @@ module _ (s : Session) (p : List ℕ) (room : ℕ) (a : Permitted s (length p) r
           roomy = omega (arith, allowed .piece);
         }
 
+    -- of the same setup
+    pub first-setup : turn .session .setup ≡ setup
+    unfolding replyAfter
+    first-setup = refl
+
     pub first-fed : turn .session .fed + (length p - turn .taken) ≤ limitsOf setup .session
     unfolding replyAfter
     first-fed = omega (arith, allowed .session, taken-within)

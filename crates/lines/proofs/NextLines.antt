@@ -29,7 +29,7 @@ use Rattle.scan.specs.Scan.{Scanned, passing, handing, holding}
 use Rattle.scan.specs.Carry.{steps, told}
 use Rattle.integers.proofs.Booleans.{and-true}
 use Rattle.search.specs.Search.{isDatagram}
-use Rattle.search.proofs.ByteLists.{datagram-parts}
+use Rattle.search.proofs.Datagrams.{datagram-parts}
 use Rattle.session.specs.History.{awaitsFirst, historyNext}
 use Rattle.session.specs.Session.{axesRight}
 use Rattle.session.specs.declared.History.{History}

@@ -10,7 +10,8 @@ ghost use Rattle.setup.specs.Sensor.{sensorOf};
 ghost use Rattle.setup.specs.declared.Ruling.the-variants.{Accepted};
 ghost use Rattle.text.specs.TextLine.{shownText, outside};
 ghost use Rattle.text.specs.Putting.{Put};
-ghost use Rattle.search.specs.Search.{isDatagram, limitsOf};
+ghost use Rattle.scan.specs.Scan.{first};
+ghost use Rattle.search.specs.Search.{isDatagram, limitsOf, verdictOf, placeOf};
 ghost use Rattle.session.specs.History.{greatestCount};
 ghost use Rattle.lines.specs.Lines.{lineBy, foundIn, refusing, batchOf, batchBuffer};
 ghost use Rattle.lines.specs.PieceParts.{lookedUp, nextLine, startOf, nextOf, stopped, scanAt, Ready, Finished, Answered, Permitted};
@@ -159,18 +160,26 @@ fn stop(progress: Progress, skipped: usize) -> Progress
     after
 }
 
+// Where the first datagram of the setup lies in bytes.
+fn find(known: LookedUp, bytes: &[u8]) -> Place
+    requires { ⌜ (rulingOn (known .setup) ≡ Accepted) × (known ≡ lookedUp (known .setup)) ⌝ }
+    ensures { λ r. ⌜ r ≡ placeOf (first (verdictOf (known .setup)) (now (bytes .entry))) ⌝ }
+{
+    let sensor = known.sensor;
+    search::find(sensor, bytes)
+}
+
 // The lines of the piece from a place on.
 fn lines_from(known: LookedUp, start: Progress, piece: &[u8], buffer: &mut [u8]) -> Progress
     requires { ⌜ Ready (known .setup) start (length (now piece)) (length (now buffer)) ⌝ ∗ ⌜ known ≡ lookedUp (known .setup) ⌝ }
     ensures { λ r. ⌜ Finished (known .setup) start (now (piece .entry)) (now (buffer .entry)) (now (buffer .exit)) r ⌝ }
 {
-    let sensor = known.sensor;
     let len = piece.len();
     let mut going = start;
     while going.at < len {
         let at = going.at;
         let rest = &piece[at..];
-        match search::find(sensor, rest) {
+        match find(known, rest) {
             Place::Complete(skipped, size) => {
                 let end = skipped + size;
                 going = one_line(known, going, skipped, &rest[skipped..end], buffer);

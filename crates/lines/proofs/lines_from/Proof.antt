@@ -19,10 +19,10 @@ use Rattle.lines.proofs.lines_from.Statement.{statement}
 use Rattle.lines.proofs.lines_from.Tie as tie
 
 abbrev Inv-loop : tie.InvT-loop
-Inv-loop setup piece buffer₀ len going₀ buffer going = Invariant setup going₀ piece buffer₀ going buffer
+Inv-loop known piece buffer₀ len going₀ buffer going = Invariant (known .setup) going₀ piece buffer₀ going buffer
 
 abbrev μ-loop : tie.MeasureT-loop
-μ-loop setup piece buffer₀ len going₀ buffer going = length piece - going .at
+μ-loop known piece buffer₀ len going₀ buffer going = length piece - going .at
 
 -- what find returns: how many bytes are passed over, and the datagram's size
 abbrev over : tie.After-known-told Inv-loop μ-loop → ℕ
@@ -43,10 +43,10 @@ rest c =
     take (length (h .before .before .before .args .piece .now) - h .loop .going .at) (left c)
 
 -- what find tells
-complete-arm : (c : tie.After-known-told Inv-loop μ-loop) → IsComplete (c .before .before .before .before .before .before .before .before .before .before .args .setup) (left c) (over c) (size c)
+complete-arm : (c : tie.After-known-told Inv-loop μ-loop) → IsComplete (c .before .before .before .before .before .before .before .before .before .before .args .known .setup) (left c) (over c) (size c)
 complete-arm c =
     let h = c .before .before .before .before .before .before .before in
-    let u = h .before .before .before .args .setup in
+    let u = h .before .before .before .args .known .setup in
     let p = h .before .before .before .args .piece .now in
     found-complete u (h .loop .inv .ready .accepted) (left c) (over c)
     (ap (λ (v : List ℕ). placeOf (first (verdictOf u) v)) (sym (to-end p (h .loop .going .at)))
@@ -56,10 +56,10 @@ complete-arm c =
 undecided-arm :
     (c : tie.After-known-told2 Inv-loop μ-loop)
     → let h = c .before .before .before .before .before .before .before in
-    IsUndecided (h .before .before .before .args .setup) (drop (h .loop .going .at) (h .before .before .before .args .piece .now)) (c .before .skipped2 .given .0 .0)
+    IsUndecided (h .before .before .before .args .known .setup) (drop (h .loop .going .at) (h .before .before .before .args .piece .now)) (c .before .skipped2 .given .0 .0)
 undecided-arm c =
     let h = c .before .before .before .before .before .before .before in
-    let u = h .before .before .before .args .setup in
+    let u = h .before .before .before .args .known .setup in
     let p = h .before .before .before .args .piece .now in
     found-undecided u (h .loop .inv .ready .accepted) (drop (h .loop .going .at) p) (c .before .skipped2 .given .0 .0)
     (ap (λ (v : List ℕ). placeOf (first (verdictOf u) v)) (sym (to-end p (h .loop .going .at)))
@@ -90,27 +90,27 @@ within :
 within c =
     let l = c .before .before .before .before .before .before .before .loop in
     let a = c .before .before .before .before .before .before .before .before .before .before .args in
-    complete-within (a .setup) (a .start) (a .piece .now) (a .buffer .now) (l .going) (l .buffer) (l .inv) (over c) (size c) (complete-arm c)
+    complete-within (a .known .setup) (a .start) (a .piece .now) (a .buffer .now) (l .going) (l .buffer) (l .inv) (over c) (size c) (complete-arm c)
 
 found-long : (c : tie.After-known-told Inv-loop μ-loop) → length (found c) ≡ size c
 found-long c =
     let l = c .before .before .before .before .before .before .before .loop in
     let a = c .before .before .before .before .before .before .before .before .before .before .args in
-    complete-long (a .setup) (a .start) (a .piece .now) (a .buffer .now) (l .going) (l .buffer) (l .inv) (over c) (size c) (complete-arm c)
+    complete-long (a .known .setup) (a .start) (a .piece .now) (a .buffer .now) (l .going) (l .buffer) (l .inv) (over c) (size c) (complete-arm c)
 
 -- what the call leaves
 moved :
     (c : tie.After-one-line Inv-loop μ-loop)
     → let k = c .before .before .before in
-    c .one-line .result ≡ nextOf (k .before .before .before .before .before .before .before .before .before .before .args .setup) (k .before .before .before .before .before .before .before .loop .going) (over k) (found k)
+    c .one-line .result ≡ nextOf (k .before .before .before .before .before .before .before .before .before .before .args .known .setup) (k .before .before .before .before .before .before .before .loop .going) (over k) (found k)
 moved c =
     let k = c .before .before .before in
-    c .one-line .ensures .0 ∙ ap (nextOf (k .before .before .before .before .before .before .before .before .before .before .args .setup) (k .before .before .before .before .before .before .before .loop .going) (over k)) (cut k)
+    c .one-line .ensures .0 ∙ ap (nextOf (k .before .before .before .before .before .before .before .before .before .before .args .known .setup) (k .before .before .before .before .before .before .before .loop .going) (over k)) (cut k)
 
 loop-holds : tie.Need-loop-holds Inv-loop μ-loop
 loop-holds c =
     let s = c .before .before in
-    invariant-start (s .args .setup) (s .args .start) (s .args .piece .now) (s .args .buffer .now) (s .pre)
+    invariant-start (s .args .known .setup) (s .args .start) (s .args .piece .now) (s .args .buffer .now) (s .pre .0)
 
 sub-rest : tie.Need-sub-rest Inv-loop μ-loop
 sub-rest c = omega arith
@@ -122,7 +122,9 @@ part-rest-end : tie.Need-part-rest-end Inv-loop μ-loop
 part-rest-end c = omega arith
 
 find-requires : tie.Need-find-requires Inv-loop μ-loop
-find-requires c κs = search needs
+find-requires c κs =
+    let h = c .before .before .before in
+    (h .loop .inv .ready .accepted, h .before .before .before .pre .1)
 
 enum-known-skipped : tie.Need-enum-known-skipped Inv-loop μ-loop
 enum-known-skipped c = search needs
@@ -143,13 +145,13 @@ one-line-requires : tie.Need-one-line-requires Inv-loop μ-loop
 one-line-requires c κs =
     let k = c .before .before in
     let l = k .before .before .before .before .before .before .before .loop in
-    let a = k .before .before .before .before .before .before .before .before .before .before .args in
-    let u = a .setup in
+    let s = k .before .before .before .before .before .before .before .before .before .before in
+    let u = s .args .known .setup in
     let n = over k in (
       subst (λ (v : List ℕ). Ready u (l .going) (l .going .at + (n + length v)) (length (l .buffer))) (sym (cut k))
-          (ready-less u (l .going) (length (a .piece .now)) (l .going .at + (n + length (found k))) (length (l .buffer)) (omega arith)
+          (ready-less u (l .going) (length (s .args .piece .now)) (l .going .at + (n + length (found k))) (length (l .buffer)) (omega arith)
           (omega (arith, within k, found-long k)) (l .inv .ready)),
-      ap (isDatagram u) (cut k) ∙ complete-arm k .good,
+      (ap (isDatagram u) (cut k) ∙ complete-arm k .good, s .pre .1),
     )
 
 loop-less : tie.Need-loop-less Inv-loop μ-loop
@@ -162,7 +164,7 @@ loop-less c =
       ap (λ (x : Progress). x .at) (moved (c .before .before)),
       found-long k,
       within k,
-      datagram-least (a .setup) (found k) (complete-arm k .good),
+      datagram-least (a .known .setup) (found k) (complete-arm k .good),
     )
 
 loop-again : tie.Need-loop-again Inv-loop μ-loop
@@ -170,7 +172,7 @@ loop-again c =
     let k = c .before .before .before .before .before in
     let l = k .before .before .before .before .before .before .before .loop in
     let a = k .before .before .before .before .before .before .before .before .before .before .args in
-    let u = a .setup in
+    let u = a .known .setup in
     let p = a .piece .now in
     let b = a .buffer .now in
     let o = c .before .before .one-line in
@@ -187,7 +189,7 @@ stop-requires c κs =
     let l = c .before .before .before .before .before .before .before .loop in
     let a = c .before .before .before .before .before .before .before .before .before .before .args in
     let n = c .before .skipped2 .given .0 .0 in
-    let w = undecided-within (a .setup) (a .start) (a .piece .now) (a .buffer .now) (l .going) (l .buffer) (l .inv) n (undecided-arm c) in
+    let w = undecided-within (a .known .setup) (a .start) (a .piece .now) (a .buffer .now) (l .going) (l .buffer) (l .inv) n (undecided-arm c) in
     (omega (arith, w, l .inv .ready .passed), omega (arith, w, l .inv .ready .most))
 
 same-length : tie.Need-same-length Inv-loop μ-loop
@@ -198,8 +200,8 @@ returns c =
     let l = c .before .before .before .before .before .before .before .before .loop in
     let a = c .before .before .before .before .before .before .before .before .before .before .before .args in
     let n = c .before .before .skipped2 .given .0 .0 in
-    subst (Finished (a .setup) (a .start) (a .piece .now) (a .buffer .now) (l .buffer)) (sym (c .stop .ensures))
-    (finished-stop (a .setup) (a .start) (a .piece .now) (a .buffer .now) (l .going) (l .buffer) (l .inv) n (undecided-arm (c .before)))
+    subst (Finished (a .known .setup) (a .start) (a .piece .now) (a .buffer .now) (l .buffer)) (sym (c .stop .ensures))
+    (finished-stop (a .known .setup) (a .start) (a .piece .now) (a .buffer .now) (l .going) (l .buffer) (l .inv) n (undecided-arm (c .before)))
 
 same-length-2 : tie.Need-same-length-2 Inv-loop μ-loop
 same-length-2 c = c .before .before .loop .inv .same
@@ -208,7 +210,7 @@ returns-2 : tie.Need-returns-2 Inv-loop μ-loop
 returns-2 c =
     let l = c .before .before .loop in
     let a = c .before .before .before .before .before .args in
-    finished-all (a .setup) (a .start) (a .piece .now) (a .buffer .now) (l .going) (l .buffer) (l .inv) (omega (arith, c .if1 .left))
+    finished-all (a .known .setup) (a .start) (a .piece .now) (a .buffer .now) (l .going) (l .buffer) (l .inv) (omega (arith, c .if1 .left))
 
 pub lines-from-spec : {M : Type 1} → statement M
 lines-from-spec =
