@@ -21,7 +21,7 @@ enum Got {
 }
 
 // The first bytes of the input, as many as were needed to know its first line.
-struct Front {
+struct FirstBytes {
     filled: usize,
     last: Got,
 }
@@ -33,8 +33,8 @@ enum Course {
     Closed,
 }
 
-// What is carried from part to part.
-struct Progress {
+// What a part that was fed leaves: the session, and whether to go on.
+struct PartFed {
     session: Session,
     course: Course,
 }
@@ -133,7 +133,7 @@ fn write_out(lines: &[u8]) -> Course {
 }
 
 // Feeds a part of at most 4,096 bytes, and writes out its lines.
-fn feed_part(session: Session, part: &[u8], output: &mut [u8]) -> Progress
+fn feed_part(session: Session, part: &[u8], output: &mut [u8]) -> PartFed
     requires { ⌜ Feedable session (length (now part)) × (length (now part) ≤ 4096) × (enough ≤ length (now output)) ⌝ }
     ensures { λ r. ⌜ FedAtMost session (length (now (part .entry))) (r .session) ⌝ }
 {
@@ -141,11 +141,11 @@ fn feed_part(session: Session, part: &[u8], output: &mut [u8]) -> Progress
     let answer = batch.answer;
     let next = batch.session;
     match answer {
-        Received::Lines(count) => Progress {
+        Received::Lines(count) => PartFed {
             session: next,
             course: write_out(&output[..count]),
         },
-        Received::Refused(number) => Progress {
+        Received::Refused(number) => PartFed {
             session: next,
             course: Course::Refused(number),
         },
@@ -153,7 +153,7 @@ fn feed_part(session: Session, part: &[u8], output: &mut [u8]) -> Progress
 }
 
 // Feeds bytes in parts.
-fn feed_bytes(start: Session, bytes: &[u8], output: &mut [u8]) -> Progress
+fn feed_bytes(start: Session, bytes: &[u8], output: &mut [u8]) -> PartFed
     requires { ⌜ Feedable start (length (now bytes)) × (enough ≤ length (now output)) ⌝ }
     ensures { λ r. ⌜ FedAtMost start (length (now (bytes .entry))) (r .session) ⌝ }
 {
@@ -167,7 +167,7 @@ fn feed_bytes(start: Session, bytes: &[u8], output: &mut [u8]) -> Progress
         course = progress.course;
         at = next_place(end, bytes.len(), is_going(course));
     }
-    Progress {
+    PartFed {
         session: session,
         course: course,
     }
@@ -239,7 +239,7 @@ fn receive(start: Session, input: &mut [u8], output: &mut [u8], from: usize, fil
 }
 
 // Reads until the first line is known: its 0x0A came, or 65 bytes, or the input ended.
-fn read_front(input: &mut [u8]) -> Front
+fn read_first_bytes(input: &mut [u8]) -> FirstBytes
     requires { ⌜ 65 ≤ length (now input) ⌝ }
     ensures { λ r. ⌜ r .filled ≤ length (now (input .exit)) ⌝ }
 {
@@ -247,20 +247,20 @@ fn read_front(input: &mut [u8]) -> Front
     while filled < 65 {
         let got = read_some(&mut input[filled..]);
         let Got::Bytes(count) = got else {
-            return Front {
+            return FirstBytes {
                 filled: filled,
                 last: got,
             };
         };
         filled += count;
         if line_end(&input[..filled]) < filled {
-            return Front {
+            return FirstBytes {
                 filled: filled,
                 last: got,
             };
         }
     }
-    Front {
+    FirstBytes {
         filled: filled,
         last: Got::Bytes(filled),
     }
@@ -270,9 +270,9 @@ fn read_front(input: &mut [u8]) -> Front
 fn run(input: &mut [u8], output: &mut [u8])
     requires { ⌜ (65536 ≡ length (now input)) × (131072 ≡ length (now output)) ⌝ }
 {
-    let front = read_front(input);
-    let filled = front.filled;
-    let last = front.last;
+    let first = read_first_bytes(input);
+    let filled = first.filled;
+    let last = first.last;
     if let Got::Failed = last {
         return;
     }

@@ -28,8 +28,8 @@ fresh-feedable l r o p q e =
     let f : o ≡ record { answer = Accepted; session = freshOf u } = e ∙ opened u ok in
     subst (λ (x : Opened). Feedable (x .session) 17179869184) (sym f) (record { sound = fresh-sound u ok; room = omega arith })
 
-read-front-requires : tie.Need-read-front-requires
-read-front-requires c κs = search needs
+read-first-bytes-requires : tie.Need-read-first-bytes-requires
+read-first-bytes-requires c κs = search needs
 
 enum-told : tie.Need-enum-told
 enum-told c = search needs
@@ -44,9 +44,9 @@ slice-reshare-prefix-line-end : tie.Need-slice-reshare-prefix-line-end
 slice-reshare-prefix-line-end c = search needs
 
 filled-long : (c : tie.After-line-end-arg)
-    → length (take (c .before .before .before .before .read-front .result .filled) (c .before .before .before .before .read-front .last .0)) ≡ c .before .before .before .before .read-front .result .filled
+    → length (take (c .before .before .before .before .read-first-bytes .result .filled) (c .before .before .before .before .read-first-bytes .last .0)) ≡ c .before .before .before .before .read-first-bytes .result .filled
 filled-long c =
-    let f = c .before .before .before .before .read-front in
+    let f = c .before .before .before .before .read-first-bytes in
     length-take-le (f .result .filled) (f .last .0) (omega arith)
 
 slice-aggregate-line-end : tie.Need-slice-aggregate-line-end
@@ -55,7 +55,7 @@ slice-aggregate-line-end c = sym (filled-long c)
 line-end-requires : tie.Need-line-end-requires
 line-end-requires c κs = search needs
 
-line-within : (c : tie.After-line-end) → c .line-end .result ≤ c .before .before .before .before .before .read-front .result .filled
+line-within : (c : tie.After-line-end) → c .line-end .result ≤ c .before .before .before .before .before .read-first-bytes .result .filled
 line-within c = omega (arith, filled-long (c .before), c .line-end .ensures .1)
 
 slice-reshare-prefix-read-line : tie.Need-slice-reshare-prefix-read-line
@@ -63,7 +63,7 @@ slice-reshare-prefix-read-line c = omega (arith, line-within c)
 
 slice-aggregate-read-line : tie.Need-slice-aggregate-read-line
 slice-aggregate-read-line c =
-    sym (length-take-le (c .before .line-end .result) (c .before .before .before .before .before .before .read-front .last .0) (omega (arith, line-within (c .before))))
+    sym (length-take-le (c .before .line-end .result) (c .before .before .before .before .before .before .read-first-bytes .last .0) (omega (arith, line-within (c .before))))
 
 read-line-requires : tie.Need-read-line-requires
 read-line-requires c κs = search needs
@@ -90,14 +90,14 @@ open-requires : tie.Need-open-requires
 open-requires c κs = search needs
 
 add-least : tie.Need-add-least
-add-least c = omega (arith, line-within (c .before .before .before .before .before .before .before .before .before .before .before .before), c .before .before .before .before .before .before .before .before .before .before .before .before .before .before .before .before .before .read-front .ensures, c .before .before .before .before .before .before .before .before .before .before .before .before .before .before .before .before .before .before .before .before .before .pre)
+add-least c = omega (arith, line-within (c .before .before .before .before .before .before .before .before .before .before .before .before), c .before .before .before .before .before .before .before .before .before .before .before .before .before .before .before .before .before .read-first-bytes .ensures, c .before .before .before .before .before .before .before .before .before .before .before .before .before .before .before .before .before .before .before .before .before .pre)
 
 least-requires : tie.Need-least-requires
 least-requires c κs = search needs
 
 receive-requires : tie.Need-receive-requires
 receive-requires c κs =
-    let f = c .before .before .before .before .before .before .before .before .before .before .before .before .before .before .before .before .before .before .read-front .ensures in
+    let f = c .before .before .before .before .before .before .before .before .before .before .before .before .before .before .before .before .before .before .read-first-bytes .ensures in
     let p = c .before .before .before .before .before .before .before .before .before .before .before .before .before .before .before .before .before .before .before .before .before .before .pre in
     let r = c .before .before .before .before .before .before .before .before .before .before .before .read-line in (
       (omega (arith, c .least .ensures), omega (arith, f), omega (arith, f, c .before .before .before .before .before .before .before .before .before .before .before .before .before .before .before .before .before .input .given, p), omega (arith, p)),
@@ -123,7 +123,7 @@ pub run-spec : {M : Type 1} → statement M
 run-spec =
     tie.close
     (tie.spec
-    read-front-requires
+    read-first-bytes-requires
     enum-told
     same-length
     returns

@@ -1,12 +1,12 @@
--- `stim_bench::read_front` meets its contract. Assumes nothing.
+-- `stim_bench::read_first_bytes` meets its contract. Assumes nothing.
 use Prim.Native.Nat.{_-_, _≤_}
 use mathlib.Core.Path.{_≡_, sym}
 use native.Mathlib.Omega.{arith}
 use borrow.Author.Needs.{needs}
 use lib.ListN.{length}
 use lib.Seq.{length-take-le}
-use Rattle.stim_bench.proofs.read_front.Statement.{statement}
-use Rattle.stim_bench.proofs.read_front.Tie as tie
+use Rattle.stim_bench.proofs.read_first_bytes.Statement.{statement}
+use Rattle.stim_bench.proofs.read_first_bytes.Tie as tie
 
 abbrev Inv-loop : tie.InvT-loop
 Inv-loop input₀ filled₀ input filled =
@@ -69,8 +69,8 @@ same-length-3 c = search needs
 returns-3 : tie.Need-returns-3 Inv-loop μ-loop
 returns-3 c = search needs
 
-pub read-front-spec : {M : Type 1} → statement M
-read-front-spec =
+pub read-first-bytes-spec : {M : Type 1} → statement M
+read-first-bytes-spec =
     tie.close
     (tie.spec
     Inv-loop
