@@ -1,6 +1,7 @@
 #!/usr/bin/perl
-# Writes the cases of crates/cases/stdin that another program answers: the check by the Debian package libdigest-crc-perl, and datagrams,
-# statuses and gaps by a few lines of Perl written from 01. The hand-written cases stand in front of them in that file.
+# Writes the cases that another program answers: the check by the Debian package libdigest-crc-perl, and datagrams, statuses, gaps and text
+# lines by a few lines of Perl written from 01. The text lines (`write`) stand in reference/src/line_cases.txt, the others in
+# crates/cases/stdin.
 use strict;
 use warnings;
 use Digest::CRC;

@@ -78,7 +78,7 @@ fn stream_size(random: &mut Random) -> usize {
 
 /// A setup line with one fault of each of up to three refusal numbers, or with
 /// a harmless oddity, without a line end.
-fn doubtful_setup_line(random: &mut Random, good: &Setup) -> Vec<u8> {
+pub fn doubtful_setup_line(random: &mut Random, good: &Setup) -> Vec<u8> {
     let mut setup = *good;
     let fault_count = random.pick(&[1, 1, 1, 2, 3]);
     let faults: Vec<usize> = (0..fault_count).map(|_| random.between(1, 9)).collect();

@@ -9,23 +9,29 @@
 //! * [`datagram`]: decoding, status, doubles, gaps, totals of one datagram
 //! * [`session`]: opening and feeding a session (refusals 10 to 12)
 //! * [`line`]: the text line (refusals 4 to 9, 13 and 14)
+//! * [`whole_piece`]: the lines of a whole piece at once (refusals 10 to 12, 14)
 //! * [`program`]: what the receiving program prints for a whole input
 //!
 //! Beside it:
 //!
 //! * [`fast`]: the same program written for speed
 //! * [`random`], [`generate`]: adversarial inputs from a seed
+//! * [`call`]: single calls of the library as records, with their answers as text
+//! * [`listed`]: calls written by hand, and at their edges
 
+pub mod call;
 pub mod check;
 pub mod datagram;
 pub mod fast;
 pub mod generate;
 pub mod layout;
 pub mod line;
+pub mod listed;
 pub mod program;
 pub mod random;
 pub mod session;
 pub mod setup;
+pub mod whole_piece;
 
 /// The number of a refusal, as listed in 01, "What is turned down".
 pub type Refusal = u8;

@@ -177,7 +177,8 @@ pub fn feed(session: &Session, piece: &[u8]) -> Answer {
     }
 }
 
-fn judge_feeding(session: &Session, piece: &[u8]) -> Result<(), Refusal> {
+/// Refusals 10 to 12 for a session and a piece.
+pub fn judge_feeding(session: &Session, piece: &[u8]) -> Result<(), Refusal> {
     judge_session(session)?;
     // 11. The piece is over 4,096 bytes.
     if piece.len() > PIECE_LIMIT {

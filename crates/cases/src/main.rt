@@ -1,31 +1,15 @@
-// Runs the cases that are not proved. Each line of standard input is a case: its kind, what must come out, and what goes in, parted by
-// single spaces. The case is written back behind `ok`, or behind `WRONG` if something else came out.
-//     line NUMBER TEXT       the number that refuses the setup line TEXT, 0 if it is accepted
-//     bytes NUMBER HEX       the same of a line given as bytes
-//     setup NUMBER VALUES    the same of a setup given as its nine values
-//     reads VALUES TEXT      the values that a line gives back
+// Runs cases of the building blocks, as `probe` does of the calls that a user makes. Each line of standard input is a case: its kind, what
+// must come out, and what goes in, parted by single spaces. It is written back behind `ok`, or behind `WRONG` if something else came out.
 //     check HEX HEX          the check of bytes, with the zero bytes that aren't sent
 //     mpeg2 HEX HEX          CRC-32/MPEG-2 of bytes
 //     accepts A I T HEX      whether (1) or not (0) bytes are an acceptable datagram of identifier I with termination T
 //     decodes I READINGS STATUSES COUNTER LATENCY HEX
 //     fit STATUS XYZ COUNT   which axes a status leaves fit (1), and how many channels it flags
 //     gap RATE FIRST PREVIOUS COUNTER MISSED     the datagrams missed, or `?`
-//     write NUMBER SETUP ORDINAL COUNTER LATENCY MISSED READINGS STATUSES TOTALS ROOM TEXT
-//                            the number that refuses a text line in a buffer of ROOM bytes, or 0 and the line without its end; a total is
-//                            1 or 0, for begun or not, and its value. The whole buffer is compared
-//     open .., piece ..      opening and feeding, described in feeding.rt
-mod feeding;
-
 use libc::STDIN_FILENO;
 use libc::STDOUT_FILENO;
-use motion::Datagrams;
 use motion::Gap;
-use motion::GroupTotals;
-use motion::Total;
-use motion::Totals;
-use setup::Ruling;
 use setup::Setup;
-use text::Written;
 ghost use mathlib.Core.Path.{_≡_};
 ghost use Prim.Native.Nat.{_≤_};
 ghost use lib.ListN.{length};
@@ -114,99 +98,30 @@ fn bytes_of(digits: &[u8]) -> Bytes
     }
 }
 
-fn number_of(ruling: Ruling) -> u64 {
-    match ruling {
-        Ruling::Accepted => 0,
-        Ruling::Refused(number) => number as u64,
-    }
+// The bytes that the word k and what follows it write.
+fn bytes_at(given: &[u8], k: usize) -> Bytes
+    ensures { λ r. ⌜ (r .count ≤ 256) × (length (r .bytes) ≡ 256) ⌝ }
+{
+    let at = word_start(given, k);
+    bytes_of(&given[at..])
 }
 
 fn value_at(given: &[u8], k: usize) -> u16 {
     (decimal_at(given, word_start(given, k)) % 65536) as u16
 }
 
-// The setup whose nine values are the words from k on.
-fn setup_at(given: &[u8], k: usize) -> Setup
-    requires { ⌜ k ≤ 5 ⌝ }
-{
-    Setup {
-        rate: value_at(given, k),
-        identifier: (value_at(given, k + 1) % 256) as u8,
-        termination: value_at(given, k + 2),
-        units: [
-            value_at(given, k + 3),
-            value_at(given, k + 4),
-            value_at(given, k + 5),
-        ],
-        shifts: [
-            value_at(given, k + 6),
-            value_at(given, k + 7),
-            value_at(given, k + 8),
-        ],
-    }
-}
-
-fn same_three(a: [u16; 3], b: [u16; 3]) -> bool {
-    (a[0] == b[0]) & (a[1] == b[1]) & (a[2] == b[2])
-}
-
-fn same_setup(a: Setup, b: Setup) -> bool {
-    let units = a.units;
-    let shifts = a.shifts;
-    let other_units = b.units;
-    let other_shifts = b.shifts;
-    (a.rate == b.rate)
-        & (a.identifier == b.identifier)
-        & (a.termination == b.termination)
-        & same_three(units, other_units)
-        & same_three(shifts, other_shifts)
-}
-
-// The number that refuses a line, 0 if it is accepted.
-fn line_number(line: &[u8]) -> u64 {
-    let read = setup_line::read_line(line);
-    let answer = read.answer;
-    number_of(answer)
-}
-
-fn line_case(given: &[u8]) -> bool {
-    let at = word_start(given, 2);
-    line_number(&given[at..]) == decimal_at(given, word_start(given, 1))
-}
-
-fn bytes_case(given: &[u8]) -> bool {
-    let at = word_start(given, 2);
-    let line = bytes_of(&given[at..]);
-    let bytes = line.bytes;
-    let count = line.count;
-    line_number(&bytes[..count]) == decimal_at(given, word_start(given, 1))
-}
-
-fn setup_case(given: &[u8]) -> bool {
-    number_of(setup::judge(setup_at(given, 2))) == decimal_at(given, word_start(given, 1))
-}
-
-fn reads_case(given: &[u8]) -> bool {
-    let at = word_start(given, 10);
-    let read = setup_line::read_line(&given[at..]);
-    let setup = read.setup;
-    same_setup(setup, setup_at(given, 1))
-}
-
 fn check_case(given: &[u8]) -> bool {
-    let at = word_start(given, 2);
-    let checked = bytes_of(&given[at..]);
+    let checked = bytes_at(given, 2);
     let bytes = checked.bytes;
     let count = checked.count;
-    crc::crc32(&bytes[..count]) as u64 == hexadecimal_at(given, word_start(given, 1))
+    crc::crc32(&bytes[0..count]) as u64 == hexadecimal_at(given, word_start(given, 1))
 }
 
 fn mpeg2_case(given: &[u8]) -> bool {
-    let at = word_start(given, 2);
-    let checked = bytes_of(&given[at..]);
+    let checked = bytes_at(given, 2);
     let bytes = checked.bytes;
     let count = checked.count;
-    crc::crc32_mpeg2(&bytes[..count]) as u64 == hexadecimal_at(given, word_start(given, 1))
+    crc::crc32_mpeg2(&bytes[0..count]) as u64 == hexadecimal_at(given, word_start(given, 1))
 }
 
 // The number at the word k, `-` before a negative one.
@@ -221,7 +136,7 @@ fn signed_at(given: &[u8], k: usize) -> i64 {
     (decimal_at(given, at) % 9223372036854775808) as i64
 }
 
-// A setup of an identifier and a termination.
+// A setup of these, its groups unset.
 fn setup_of(identifier: u8, termination: u16, rate: u16) -> Setup {
     Setup {
         rate: rate,
@@ -234,11 +149,10 @@ fn setup_of(identifier: u8, termination: u16, rate: u16) -> Setup {
 
 fn accepts_case(given: &[u8]) -> bool {
     let setup = setup_of((value_at(given, 2) % 256) as u8, value_at(given, 3), 0);
-    let at = word_start(given, 4);
-    let datagram = bytes_of(&given[at..]);
+    let datagram = bytes_at(given, 4);
     let bytes = datagram.bytes;
     let count = datagram.count;
-    wire::is_acceptable(setup, &bytes[..count]) == (value_at(given, 1) == 1)
+    wire::is_acceptable(setup, &bytes[0..count]) == (value_at(given, 1) == 1)
 }
 
 fn same_reading(reading: i32, given: &[u8], k: usize) -> bool {
@@ -272,11 +186,10 @@ fn same_contents(given: &[u8], identifier: u8, bytes: &[u8]) -> bool {
 }
 
 fn decodes_case(given: &[u8]) -> bool {
-    let at = word_start(given, 16);
-    let datagram = bytes_of(&given[at..]);
+    let datagram = bytes_at(given, 16);
     let bytes = datagram.bytes;
     let count = datagram.count;
-    same_contents(given, (value_at(given, 1) % 256) as u8, &bytes[..count])
+    same_contents(given, (value_at(given, 1) % 256) as u8, &bytes[0..count])
 }
 
 fn one_if(set: bool, weight: u32) -> u32
@@ -309,158 +222,18 @@ fn gap_case(given: &[u8]) -> bool {
     }
 }
 
-// The reading at the word k.
-fn reading_at(given: &[u8], k: usize) -> i32 {
-    let at = word_start(given, k);
-    if given.len() <= at {
-        return 0;
-    }
-    if given[at] == 0x2D {
-        return 0 - (decimal_at(given, at + 1) % 2147483648) as i32;
-    }
-    (decimal_at(given, at) % 2147483648) as i32
-}
-
-fn row_at(given: &[u8], k: usize) -> [i32; 3]
-    requires { ⌜ k ≤ 21 ⌝ }
-{
-    [
-        reading_at(given, k),
-        reading_at(given, k + 1),
-        reading_at(given, k + 2),
-    ]
-}
-
-fn total_at(given: &[u8], k: usize) -> Total
-    requires { ⌜ k ≤ 43 ⌝ }
-{
-    Total {
-        begun: value_at(given, k) == 1,
-        steps: signed_at(given, k + 1),
-    }
-}
-
-fn group_totals_at(given: &[u8], k: usize) -> GroupTotals
-    requires { ⌜ k ≤ 39 ⌝ }
-{
-    GroupTotals {
-        x: total_at(given, k),
-        y: total_at(given, k + 2),
-        z: total_at(given, k + 4),
-    }
-}
-
-fn totals_given(given: &[u8]) -> Totals {
-    Totals {
-        gyro: group_totals_at(given, 27),
-        accelerometer: group_totals_at(given, 33),
-        inclinometer: group_totals_at(given, 39),
-    }
-}
-
-fn gap_given(given: &[u8]) -> Gap {
-    let at = word_start(given, 14);
-    if given.len() <= at {
-        return Gap::OffStep;
-    }
-    if given[at] == 0x3F {
-        return Gap::OffStep;
-    }
-    Gap::Missed(Datagrams(decimal_at(given, at)))
-}
-
-fn statuses_given(given: &[u8]) -> [u8; 3] {
-    [
-        (value_at(given, 24) % 256) as u8,
-        (value_at(given, 25) % 256) as u8,
-        (value_at(given, 26) % 256) as u8,
-    ]
-}
-
-fn write_given(buffer: &mut [u8], given: &[u8]) -> Written {
-    let ordinal = decimal_at(given, word_start(given, 11));
-    let counter = (value_at(given, 12) % 256) as u8;
-    let gap = gap_given(given);
-    let grid = [row_at(given, 15), row_at(given, 18), row_at(given, 21)];
-    let statuses = statuses_given(given);
-    let totals = totals_given(given);
-    text::write_line(
-        buffer,
-        setup_at(given, 2),
-        ordinal,
-        counter,
-        value_at(given, 13),
-        gap,
-        grid,
-        statuses,
-        totals,
-    )
-}
-
-// What must stand at a place of the buffer: the line, its end, and what was there before.
-fn byte_expected(line: &[u8], number: u64, i: usize) -> u8 {
-    if number != 0 {
-        return 0xEE;
-    }
-    if i < line.len() {
-        return line[i];
-    }
-    if i == line.len() { 0x0A } else { 0xEE }
-}
-
-fn same_buffer(buffer: &[u8; 400], line: &[u8], number: u64) -> bool {
-    let mut i: usize = 0;
-    while i < 400 {
-        if buffer[i] != byte_expected(line, number, i) {
-            return false;
-        }
-        i += 1;
-    }
-    true
-}
-
-fn same_answer(written: Written, line: &[u8], number: u64) -> bool {
-    match written {
-        Written::Line(count) => (number == 0) & (count == line.len() + 1),
-        Written::Refused(refusal) => refusal as u64 == number,
-    }
-}
-
-// A buffer with nothing written yet.
-fn untouched() -> [u8; 400]
-    ensures { λ r. ⌜ length r ≡ 400 ⌝ }
-{
-    [0xEE; 400]
-}
-
-fn write_case(given: &[u8]) -> bool {
-    let number = decimal_at(given, word_start(given, 1));
-    let mut buffer = untouched();
-    let room = (value_at(given, 45) % 401) as usize;
-    let at = word_start(given, 46);
-    let written = write_given(&mut buffer[..room], given);
-    same_answer(written, &given[at..], number) & same_buffer(&buffer, &given[at..], number)
-}
-
 fn passes(given: &[u8]) -> bool {
     if given.len() == 0 {
         return false;
     }
     let kind = given[0];
     match kind {
-        b'l' => line_case(given),
-        b'b' => bytes_case(given),
-        b's' => setup_case(given),
-        b'r' => reads_case(given),
         b'c' => check_case(given),
         b'm' => mpeg2_case(given),
         b'a' => accepts_case(given),
         b'd' => decodes_case(given),
         b'f' => fit_case(given),
         b'g' => gap_case(given),
-        b'w' => write_case(given),
-        b'o' => feeding::open_case(given),
-        b'p' => feeding::piece_case(given),
         _ => false,
     }
 }
@@ -487,15 +260,8 @@ fn run_all(text: &[u8]) {
     }
 }
 
-// Room for all cases.
-fn room() -> [u8; 131072]
-    ensures { λ r. ⌜ 131072 ≡ length r ⌝ }
-{
-    [0; 131072]
-}
-
 fn main() {
-    let mut buffer = room();
+    let mut buffer = io::large_buffer();
     let count = io::read_full(STDIN_FILENO, &mut buffer);
     run_all(&buffer[..count]);
 }

@@ -10,11 +10,11 @@ use lib.Pow.{pow-pos, mod-pow-add}
 use lib.Bits.{bitXor, xor-lt, xor-zero-r, xor-shifted}
 use Rattle.integers.specs.Bytes.{AllBytes}
 use Rattle.integers.proofs.Bytes.{bytes-tail}
-use Rattle.crc.specs.Check.{Parameters, stim300, shift, shifts, byteStep, register, padded, checkOf, check32}
+use Rattle.crc.specs.Check.{Parameters, stim300, shift, shifts, byteStep, register, covered, checkOf, check32}
 use Rattle.crc.specs.Serial.{bitStep, bitsStep, serial, serialOf}
 use Rattle.crc.proofs.Xor.{xor-assoc, xor-scale, xor-choice}
 use Rattle.crc.proofs.Laws.{pow-join, top-lt, shift-xor, shift-low, shift-lt, byteStep-lt}
-use Rattle.crc.proofs.Padding.{padded-bytes}
+use Rattle.crc.proofs.Padding.{covered-bytes}
 use Rattle.crc.proofs.Checks.{Sound, stim300-sound}
 
 module _ (w p : ℕ) (hw : 8 ≤ w) (hp : p < 2 ^ w) where
@@ -89,8 +89,8 @@ module _ (w p : ℕ) (hw : 8 ≤ w) (hp : p < 2 ^ w) where
 pub serial-agrees : (p : Parameters) (s : List ℕ) → Sound p → AllBytes s → serialOf p s ≡ checkOf p s
 unfolding serialOf checkOf
 serial-agrees p s ok h =
-    serial-register (p .width) (p .polynomial) (ok .wide) (ok .polynomial-fits) (padded (p .multiple) s) (p .start)
-    (padded-bytes (p .multiple) s h) (ok .start-fits)
+    serial-register (p .width) (p .polynomial) (ok .wide) (ok .polynomial-fits) (covered (p .multiple) s) (p .start)
+    (covered-bytes (p .multiple) s h) (ok .start-fits)
 
 pub stim300-agrees : (s : List ℕ) → AllBytes s → serialOf stim300 s ≡ check32 s
 unfolding check32

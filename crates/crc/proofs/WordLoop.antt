@@ -7,9 +7,9 @@ use native.Mathlib.Nat.{add-zero}
 use native.Mathlib.Omega.{arith}
 use lib.ListN.{length, getD, take, drop, length-drop, take-append-drop, drop-of-length-le}
 use lib.Seq.{drop-drop, getD-drop}
-use Rattle.crc.specs.Check.{register, padded}
+use Rattle.crc.specs.Check.{register, covered}
 use Rattle.crc.proofs.Laws.{register-append}
-use Rattle.crc.proofs.Padding.{length-padded, padded-at}
+use Rattle.crc.proofs.Padding.{length-covered, covered-at}
 
 -- the four elements from i on
 abbrev pub four : List ℕ → ℕ → List ℕ
@@ -30,16 +30,16 @@ drop-four s i h =
 module _ (w p c : ℕ) (s : List ℕ) (i : ℕ) (whole : i % 4 ≡ 0) where
   -- one turn: r is the register after the four bytes from i on, and v the one after all
   pub four-next : (r v : ℕ) → i < length s → r ≡ register w p c (four s i)
-      → register w p c (drop i (padded 4 s)) ≡ v → register w p r (drop (i + 4) (padded 4 s)) ≡ v
+      → register w p c (drop i (covered 4 s)) ≡ v → register w p r (drop (i + 4) (covered 4 s)) ≡ v
   four-next r v h er ev =
-      let same : four (padded 4 s) i ≡ four s i = simp padded-at in
-      ap (λ (n : ℕ). register w p n (drop (i + 4) (padded 4 s))) (er ∙ ap (register w p c) (sym same))
-      ∙ sym (register-append w p c (four (padded 4 s) i) (drop (i + 4) (padded 4 s)))
-      ∙ ap (register w p c) (sym (drop-four (padded 4 s) i (omega (arith, length-padded 4 s))))
+      let same : four (covered 4 s) i ≡ four s i = simp covered-at in
+      ap (λ (n : ℕ). register w p n (drop (i + 4) (covered 4 s))) (er ∙ ap (register w p c) (sym same))
+      ∙ sym (register-append w p c (four (covered 4 s) i) (drop (i + 4) (covered 4 s)))
+      ∙ ap (register w p c) (sym (drop-four (covered 4 s) i (omega (arith, length-covered 4 s))))
       ∙ ev
 
-  pub four-end : length s ≤ i → register w p c (drop i (padded 4 s)) ≡ c
+  pub four-end : length s ≤ i → register w p c (drop i (covered 4 s)) ≡ c
   unfolding register
   four-end h =
-      let e : length (padded 4 s) ≤ i = omega (arith, length-padded 4 s) in
-      ap (register w p c) (drop-of-length-le (padded 4 s) e)
+      let e : length (covered 4 s) ≤ i = omega (arith, length-covered 4 s) in
+      ap (register w p c) (drop-of-length-le (covered 4 s) e)

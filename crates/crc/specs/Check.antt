@@ -45,11 +45,11 @@ unfoldable pub padding : ℕ → ℕ → List ℕ
 padding m n = replicate ((m - n % m) % m) 0
 
 -- the bytes that the check covers
-unfoldable pub padded : ℕ → List ℕ → List ℕ
-padded m s = s ++ padding m (length s)
+unfoldable pub covered : ℕ → List ℕ → List ℕ
+covered m s = s ++ padding m (length s)
 
 unfoldable pub checkOf : Parameters → List ℕ → ℕ
-checkOf p s = register (p .width) (p .polynomial) (p .start) (padded (p .multiple) s)
+checkOf p s = register (p .width) (p .polynomial) (p .start) (covered (p .multiple) s)
 
 -- the check of the bytes that stand before it in a datagram
 unfoldable pub check32 : List ℕ → ℕ

@@ -3,7 +3,7 @@
 use mathlib.Core.List.{List, [], _∷_}
 use Prim.Native.Nat.{ℕ, zero, suc, _-_, _*_, _/_, _%_, _^_}
 use lib.Bits.{bitXor}
-use Rattle.crc.specs.Check.{Parameters, padded}
+use Rattle.crc.specs.Check.{Parameters, covered}
 
 -- one bit of the message: it is added to the bit that leaves the register at the top, and if the sum is one, the polynomial is added
 unfoldable pub bitStep : ℕ → ℕ → ℕ → ℕ → ℕ
@@ -20,4 +20,4 @@ serial w p c [] = c
 serial w p c (x ∷ s) = serial w p (bitsStep w p 8 c x) s
 
 unfoldable pub serialOf : Parameters → List ℕ → ℕ
-serialOf p s = serial (p .width) (p .polynomial) (p .start) (padded (p .multiple) s)
+serialOf p s = serial (p .width) (p .polynomial) (p .start) (covered (p .multiple) s)

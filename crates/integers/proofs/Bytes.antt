@@ -2,21 +2,20 @@
 use mathlib.Core.Path.{_≡_, refl, sym, ap, _∙_, subst}
 use mathlib.Core.Bool.{Bool, true, false}
 use mathlib.Core.List.{List, [], _∷_, _++_}
-use Prim.Native.Nat.{ℕ, zero, suc, _+_, _-_, _*_, _/_, _%_, _^_, _≤_, _<_}
-use native.Mathlib.Nat.{suc-mul, mul-le-mul-right, lt-of-lt-of-le, mod-eq-of-lt}
+use Prim.Native.Nat.{ℕ, zero, suc, _+_, _*_, _/_, _%_, _^_, _≤_, _<_}
+use native.Mathlib.Nat.{suc-mul, mul-le-mul-right, lt-of-lt-of-le}
 use native.Mathlib.Omega.{arith}
 use lib.Dec.{ltb}
-use lib.IntN.{ℤ, pos, negsuc, _-ℤ_}
+use lib.IntN.{ℤ, pos, _-ℤ_}
 use lib.ListN.{length, take, drop, getD}
 use lib.Pow.{pow-add, pow-mono, high, low}
-use lib.Seq.{getD-drop, drop-cons}
+use lib.Seq.{getD-drop}
 use mir.Syntax.{Width}
 use mir.Val.{hbits, SFits, ofZ, toZ}
 use mir.ValLaws.{toZ-pos, toZ-ofZ}
 use borrow.Author.Tests.{lt-ltb, le-ltb, ltb-true, ltb-false}
-use Rattle.integers.specs.Rounding.{residue}
 use Rattle.integers.specs.Bytes.{AllBytes, bigEndian, twosComplement, signedBytes}
-use Rattle.integers.proofs.Parts.{posPart, negPart, parts-apart, parts-ext, sub-parts}
+use Rattle.integers.proofs.Parts.{posPart, negPart, parts-apart, sub-parts}
 use Rattle.integers.proofs.Signed.{sfits-of-parts}
 
 -- ---- lists of bytes
@@ -46,18 +45,6 @@ bytes-take (suc n) {bs = b ∷ bs} h = bytes-cons (h .each 0) (bytes-take n (byt
 pub bytes-drop : (n : ℕ) {bs : List ℕ} → AllBytes bs → AllBytes (drop n bs)
 bytes-drop n {bs} h = record { each = λ i. rw (getD-drop n bs i 0) (h .each (n + i)) }
 
--- the bytes of a field by their places
-pub two-at : (s : List ℕ) (at : ℕ) → at + 2 ≤ length s → take 2 (drop at s) ≡ getD s at 0 ∷ getD s (at + 1) 0 ∷ []
-two-at s at h =
-    let e : at + 1 ≡ suc at = omega arith in
-    rw (drop-cons s at 0 (omega arith), drop-cons s (suc at) 0 (omega arith), e)
-
-pub three-at : (s : List ℕ) (at : ℕ) → at + 3 ≤ length s → take 3 (drop at s) ≡ getD s at 0 ∷ getD s (at + 1) 0 ∷ getD s (at + 2) 0 ∷ []
-three-at s at h =
-    let e : at + 1 ≡ suc at = omega arith in
-    let f : at + 2 ≡ suc (suc at) = omega arith in
-    rw (drop-cons s at 0 (omega arith), drop-cons s (suc at) 0 (omega arith), drop-cons s (suc (suc at)) 0 (omega arith), e, f)
-
 -- ---- unsigned
 
 wider : (n : ℕ) → 2 ^ (8 * suc n) ≡ 256 * 2 ^ (8 * n)
@@ -75,9 +62,14 @@ pub bigEndian-two : (a b : ℕ) → bigEndian (a ∷ b ∷ []) ≡ a * 256 + b
 unfolding bigEndian
 bigEndian-two a b = omega arith
 
-pub bigEndian-three : (a b c : ℕ) → bigEndian (a ∷ b ∷ c ∷ []) ≡ a * 65536 + b * 256 + c
+pub bigEndian-four : (a b c d : ℕ) → bigEndian (a ∷ b ∷ c ∷ d ∷ []) ≡ a * 16777216 + b * 65536 + c * 256 + d
 unfolding bigEndian
-bigEndian-three a b c = omega arith
+bigEndian-four a b c d = omega arith
+
+-- a zero byte in front alters nothing
+pub bigEndian-zero : (bs : List ℕ) → bigEndian (0 ∷ bs) ≡ bigEndian bs
+unfolding bigEndian
+bigEndian-zero bs = omega arith
 
 -- bytes are told by their value and their number
 pub bigEndian-injective : (xs ys : List ℕ) → AllBytes xs → AllBytes ys → length xs ≡ length ys → bigEndian xs ≡ bigEndian ys → xs ≡ ys
@@ -90,7 +82,8 @@ bigEndian-injective (x ∷ xs) (y ∷ ys) h k l e =
     let p = 8 * length xs in
     let r : bigEndian xs < 2 ^ p = bigEndian-below xs (bytes-tail h) in
     let q : bigEndian ys < 2 ^ p = subst (λ (n : ℕ). bigEndian ys < 2 ^ (8 * n)) (sym m) (bigEndian-below ys (bytes-tail k)) in
-    let f : x * 2 ^ p + bigEndian xs ≡ y * 2 ^ p + bigEndian ys = subst (λ (n : ℕ). x * 2 ^ p + bigEndian xs ≡ y * 2 ^ (8 * n) + bigEndian ys) (sym m) e in
+    let f : x * 2 ^ p + bigEndian xs ≡ y * 2 ^ p + bigEndian ys =
+    subst (λ (n : ℕ). x * 2 ^ p + bigEndian xs ≡ y * 2 ^ (8 * n) + bigEndian ys) (sym m) e in
     let first : x ≡ y = sym (high x p r) ∙ ap (λ (n : ℕ). n / 2 ^ p) f ∙ high y p q in
     let rest : bigEndian xs ≡ bigEndian ys = sym (low x p r) ∙ ap (λ (n : ℕ). n % 2 ^ p) f ∙ low y p q in
     let tail : xs ≡ ys = bigEndian-injective xs ys (bytes-tail h) (bytes-tail k) m rest in
@@ -106,12 +99,6 @@ twosComplement-low w n h = rw (lt-ltb (2 * n) (2 ^ w) h)
 pub twosComplement-high : (w n : ℕ) → 2 ^ w ≤ 2 * n → twosComplement w n ≡ pos n -ℤ pos (2 ^ w)
 unfolding twosComplement
 twosComplement-high w n h = rw (le-ltb (2 * n) (2 ^ w) h)
-
-half-below : (p n : ℕ) → 2 * n < p → n < p
-half-below p n h = omega arith
-
-sub-below : (p n : ℕ) → n < p → p - suc n < p
-sub-below p n h = omega arith
 
 -- z is in the range of w bits, and n up to a multiple of 2 ^ w
 pub record Complement (w n : ℕ) (z : ℤ) : Type 0 where
@@ -133,18 +120,6 @@ twosComplement-range w n h = by (ltb (2 * n) (2 ^ w)) refl
         let s = sub-parts (pos n) (pos (2 ^ w)) in
         let a = parts-apart z in
         rw (twosComplement-high w n l) (record { above = omega arith; below = omega arith; carry = 1; same = omega arith })
-
--- and back: the bits of a number are its residue
-pub residue-twosComplement : (w n : ℕ) → n < 2 ^ w → residue (twosComplement w n) (2 ^ w) ≡ n
-residue-twosComplement w n h = by (ltb (2 * n) (2 ^ w)) refl
-  where
-    by : (t : Bool) → ltb (2 * n) (2 ^ w) ≡ t → residue (twosComplement w n) (2 ^ w) ≡ n
-    by true e = rw (twosComplement-low w n (ltb-true (2 * n) (2 ^ w) e)) (mod-eq-of-lt h)
-    by false e =
-        let a = 2 ^ w - suc n in
-        let m : a % 2 ^ w ≡ a = mod-eq-of-lt (sub-below (2 ^ w) n h) in
-        let s : pos n -ℤ pos (2 ^ w) ≡ negsuc a = parts-ext (pos n -ℤ pos (2 ^ w)) (negsuc a) (omega (arith, sub-parts (pos n) (pos (2 ^ w)))) in
-        rw (twosComplement-high w n (ltb-false (2 * n) (2 ^ w) e), s) (omega arith)
 
 pub signedBytes-range : (bs : List ℕ) → AllBytes bs → Complement (8 * length bs) (bigEndian bs) (signedBytes bs)
 unfolding signedBytes

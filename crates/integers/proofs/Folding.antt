@@ -71,12 +71,16 @@ fold-sub x y =
     fold-unique (fold (fold x -ℤ fold y)) (x -ℤ y) (fold-range (fold x -ℤ fold y))
     (congruent-trans (fold-congruent (fold x -ℤ fold y)) (congruent-sub (fold x) (fold y) x y (fold-congruent x) (fold-congruent y)))
 
--- ---- the difference in code: a and b are n and o lifted by k, so that neither is negative; r is a - b, wrapped at a multiple of 2 ^ 24; its remainder is then brought into the range
+-- ---- the difference in code: a and b are n and o lifted by k, so that neither is negative; r is a - b, wrapped at a multiple of 2 ^ 24;
+-- its remainder is then brought into the range
 module _ (n o : ℤ) (k a b r j : ℕ) (ea : pos a ≡ n +ℤ pos k) (eb : pos b ≡ o +ℤ pos k) (er : r + b ≡ a + 16777216 * j) where
+  apart : posPart (n -ℤ o) + b ≡ negPart (n -ℤ o) + a
+  apart = omega (arith, parts-of-eq ea, parts-of-eq eb, add-parts n (pos k), add-parts o (pos k), sub-parts n o)
+
   pub wrapped-low : r % 16777216 < 8388608 → pos (r % 16777216) ≡ fold (n -ℤ o)
   wrapped-low h =
       fold-unique (pos (r % 16777216)) (n -ℤ o) (record { above = omega arith; below = omega arith })
-      (record { more = r / 16777216; less = j; same = omega (arith, parts-of-eq ea, parts-of-eq eb, add-parts n (pos k), add-parts o (pos k), sub-parts n o) })
+      (record { more = r / 16777216; less = j; same = omega (arith, apart) })
 
   pub wrapped-high : 8388608 ≤ r % 16777216 → pos (r % 16777216) -ℤ pos 16777216 ≡ fold (n -ℤ o)
   wrapped-high h =
@@ -84,7 +88,7 @@ module _ (n o : ℤ) (k a b r j : ℕ) (ea : pos a ≡ n +ℤ pos k) (eb : pos b
       let e = sub-parts (pos (r % 16777216)) (pos 16777216) in
       let q = parts-apart x in
       fold-unique x (n -ℤ o) (record { above = omega arith; below = omega arith })
-      (record { more = r / 16777216 + 1; less = j; same = omega (arith, parts-of-eq ea, parts-of-eq eb, add-parts n (pos k), add-parts o (pos k), sub-parts n o) })
+      (record { more = r / 16777216 + 1; less = j; same = omega (arith, apart) })
 
 -- what that subtraction needs: its result fits 32 bits and more
 pub wrapped-fits : (r : ℕ) → mag (pos (r % 16777216) -ℤ pos 16777216) < 16777217

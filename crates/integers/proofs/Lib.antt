@@ -1,4 +1,5 @@
 -- Laws that belong to no one function. Other crates cite them as Rattle.integers.proofs.NAME.
+pub mod Booleans
 pub mod Parts
 pub mod Sizes
 pub mod Signed
@@ -6,4 +7,5 @@ pub mod Rounding
 pub mod Bytes
 pub mod Folding
 pub mod Ranges
+pub mod Buffers
 pub mod BenchCases

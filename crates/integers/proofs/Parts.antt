@@ -1,5 +1,5 @@
--- A whole number by its two parts: `posPart x` is x where x is above 0 and else 0, and `negPart x` is the same of -x. Each operation of `lib.IntN` has a law on the parts
--- that is linear, so `omega`, which reads no ℤ, proves a fact about whole numbers once it is stated on parts:
+-- A whole number by its two parts: `posPart x` is x where x is above 0 and else 0, and `negPart x` is the same of -x. Each operation of
+-- `lib.IntN` has a law on the parts that is linear, so `omega`, which reads no ℤ, proves a fact about whole numbers once it is stated on parts:
 --     an equation      parts-ext lhs rhs (omega (arith, add-parts .., sub-parts .., ..)), with one law for each operation that occurs
 --     a bound of size  natAbs-parts z and parts-apart z in omega's list
 -- Assumes nothing.
@@ -11,7 +11,7 @@ use native.Mathlib.Omega.{arith}
 use lib.Dec.{T, ltb, leb, leb→le, leb·suc-suc}
 use lib.IntN.{ℤ, pos, negsuc, negℤ, natAbs, subℕ, _+ℤ_, _-ℤ_, _*ℤ_}
 use lib.Signed.{mag, nonNeg, leZ, ltZ, pos-natAbs, _≤ℤ_}
-use borrow.Author.Tests.{ltb-true, ltb-false, leb-true, leb-false, lt-ltb, le-ltb, le-leb, lt-leb}
+use borrow.Author.Tests.{ltb-true, ltb-false, leb-true, lt-ltb, le-ltb, le-leb, lt-leb}
 
 abbrev pub posPart : ℤ → ℕ
 posPart (pos n) = n
@@ -131,9 +131,6 @@ module _ (x y : ℤ) where
 
   pub leZ-true : leZ x y ≡ true → posPart x + negPart y ≤ posPart y + negPart x
   leZ-true e = leb-true (posPart x + negPart y) (posPart y + negPart x) (sym (leZ-parts x y) ∙ e)
-
-  pub leZ-false : leZ x y ≡ false → posPart y + negPart x < posPart x + negPart y
-  leZ-false e = leb-false (posPart x + negPart y) (posPart y + negPart x) (sym (leZ-parts x y) ∙ e)
 
   pub le-leZ : posPart x + negPart y ≤ posPart y + negPart x → leZ x y ≡ true
   le-leZ h = leZ-parts x y ∙ le-leb (posPart x + negPart y) (posPart y + negPart x) h

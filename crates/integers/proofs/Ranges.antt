@@ -1,25 +1,16 @@
 -- What the tests of specs/Ranges tell: the fact from a test that is true or false, and the test's value from the fact. Assumes nothing.
-use mathlib.Core.Path.{_≡_, refl}
-use mathlib.Core.Bool.{Bool, true, false, _&&_, _||_}
+use mathlib.Core.Path.{_≡_}
+use mathlib.Core.Bool.{true}
 use Prim.Native.Nat.{ℕ, _≤_}
 use native.Mathlib.Omega.{arith}
 use lib.IntN.{ℤ, pos, negsuc, natAbs}
 use lib.Signed.{leZ}
 use borrow.Author.Tests.{leb-true, le-leb, eqb-true}
 use Rattle.integers.specs.Ranges.{isZero, within, inReading}
+pub use Rattle.integers.proofs.Booleans.{and-split, or-split}
 use Rattle.integers.proofs.Parts.{parts-apart, leZ-true, le-leZ}
 use Rattle.integers.proofs.Sizes.{abs-zero}
 use Rattle.integers.proofs.Folding.{InRange}
-
--- ---- two tests at once
-
-pub and-split : (s t : Bool) → (s && t) ≡ true → (s ≡ true) × (t ≡ true)
-and-split true t e = (refl, e)
-and-split false t e = let z : _≡_ {A = ℕ} 0 1 = cc in let w : ⊥ = omega arith in absurd w
-
-pub or-split : (s t : Bool) → (s || t) ≡ false → (s ≡ false) × (t ≡ false)
-or-split false t e = (refl, e)
-or-split true t e = let z : _≡_ {A = ℕ} 0 1 = cc in let w : ⊥ = omega arith in absurd w
 
 -- ---- zero
 

@@ -30,7 +30,9 @@ floor-greatest z q d h k =
     let f = floor z d in
     let a = posPart q + negPart f in
     let b = posPart f + negPart q in
-    let l : a * d < suc b * d = omega (arith, le-parts k, mul-posPart q d, mul-negPart q d, add-mul (posPart q) (negPart f) d, add-mul (posPart f) (negPart q) d, suc-mul b d) in
+    let ea = add-mul (posPart q) (negPart f) d in
+    let eb = add-mul (posPart f) (negPart q) d in
+    let l : a * d < suc b * d = omega (arith, le-parts k, mul-posPart q d, mul-negPart q d, ea, eb, suc-mul b d) in
     parts-le q f (omega (arith, lt-of-mul-lt-mul-right d l))
 
 -- two numbers that are less than m * d apart are at most m apart when rounded down

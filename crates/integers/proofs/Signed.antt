@@ -1,5 +1,5 @@
--- Signed machine numbers. The machine keeps a signed number z as its bits, `ofZ w z`, and each operation reads it back, `toZ w (ofZ w z)`, so the needs of signed code are about
--- such terms. That z is a number of the width is `SFits w z`:
+-- Signed machine numbers. The machine keeps a signed number z as its bits, `ofZ w z`, and each operation reads it back, `toZ w (ofZ w z)`,
+-- so the needs of signed code are about such terms. That z is a number of the width is `SFits w z`:
 --     of a parameter x        c .fits .x
 --     of a callee's result    record { sfits = c .f .ok }
 --     of a struct's field     record { sfits = omega arith }

@@ -3,3 +3,4 @@ pub mod Rounding
 pub mod Bytes
 pub mod Folding
 pub mod Ranges
+pub mod Buffers

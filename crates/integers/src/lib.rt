@@ -24,18 +24,18 @@ pub fn temperature_of(first: u8, second: u8) -> i32
     z - 65536
 }
 
-// Three bytes as an unsigned number.
-fn three_bytes_of(first: u8, second: u8, third: u8) -> u32
-    ensures { λ r. ⌜ r ≡ bigEndian (first ∷ second ∷ third ∷ []) ⌝ }
+// Four bytes as an unsigned number, as the check is sent.
+pub fn four_bytes_of(first: u8, second: u8, third: u8, fourth: u8) -> u32
+    ensures { λ r. ⌜ r ≡ bigEndian (first ∷ second ∷ third ∷ fourth ∷ []) ⌝ }
 {
-    first as u32 * 65536 + second as u32 * 256 + third as u32
+    first as u32 * 16777216 + second as u32 * 65536 + third as u32 * 256 + fourth as u32
 }
 
 // Three bytes as a two's complement number, as a reading is sent.
 pub fn reading_of(first: u8, second: u8, third: u8) -> i32
     ensures { λ r. ⌜ r ≡ signedBytes (first ∷ second ∷ third ∷ []) ⌝ }
 {
-    let n = three_bytes_of(first, second, third);
+    let n = four_bytes_of(0, first, second, third);
     let z = n as i32;
     if n < 8388608 {
         return z;
@@ -43,18 +43,11 @@ pub fn reading_of(first: u8, second: u8, third: u8) -> i32
     z - 16777216
 }
 
-// z is 0, for a reading.
-pub fn is_zero(z: i32) -> bool
+// z is 0.
+pub fn is_zero(z: i64) -> bool
     ensures { λ r. ⌜ r ≡ isZero z ⌝ }
 {
     z == 0
-}
-
-// The same for a total.
-pub fn is_zero_wide(wide: i64) -> bool
-    ensures { λ r. ⌜ r ≡ isZero wide ⌝ }
-{
-    wide == 0
 }
 
 // The size of z. That of -2^63 is 2^63, which an i64 doesn't hold.

@@ -1,5 +1,5 @@
 -- A piece behind bytes that are held: the call that completes the first datagram, and what is left of the piece. Assumes nothing.
-use Prim.Native.Nat.{ℕ, suc, _+_, _-_, _^_, _≤_}
+use Prim.Native.Nat.{ℕ, suc, _+_, _-_, _^_, _≤_, _<_}
 use mathlib.Core.Path.{_≡_, refl, sym, ap, _∙_, subst}
 use mathlib.Core.Bool.{false}
 use mathlib.Core.List.{List, [], _∷_, _++_}
@@ -16,9 +16,9 @@ use Rattle.motion.specs.Totals.{totalsOf}
 use Rattle.text.specs.TextLine.{outside}
 use Rattle.scan.specs.Scan.{Scanned, First, ends, finds, first, passing, handing, holding, scan}
 use Rattle.scan.specs.Carry.{steps, carriedAfter}
-use Rattle.search.specs.Search.{verdictOf, placeOf}
-use Rattle.search.proofs.Places.{IsWhole, found-whole, found-open}
-use Rattle.session.specs.Session.{limits, sessionWith, heldBytes}
+use Rattle.search.specs.Search.{limitsOf, verdictOf, placeOf}
+use Rattle.search.proofs.Places.{IsComplete, complete-length, found-complete, found-undecided}
+use Rattle.session.specs.Session.{sessionWith, heldBytes}
 use Rattle.session.specs.History.{historyNext}
 use Rattle.session.specs.declared.History.{History}
 use Rattle.session.specs.declared.Session.{Session}
@@ -29,14 +29,15 @@ use Rattle.receiver.specs.CallParts.{replyAfter, replyAtOnce}
 use Rattle.receiver.specs.declared.Answer.the-variants.{Datagram as HandedOut, Waiting}
 use Rattle.receiver.specs.declared.Reply.{Reply}
 use Rattle.receiver.proofs.Refinement.{count-held}
-use Rattle.receiver.proofs.CallParts.{fed-at-once, count-less}
+use Rattle.receiver.proofs.CallParts.{count-less}
+use Rattle.receiver.proofs.OneLength.{fed-at-once}
 use Rattle.lines.specs.declared.Received.the-variants.{Lines}
 use Rattle.lines.specs.declared.Batch.{Batch}
 use Rattle.lines.specs.Lines.{lineOf, foundIn, enough}
 use Rattle.lines.specs.PieceParts.{startOf, nextLine, textOf, batchBy, Ready, scanAt, Answered, Permitted}
 use Rattle.lines.proofs.NextLines.{nextHistory, right-next, line-inside, line-short, text-none, text-more}
 use Rattle.lines.proofs.Placing.{sets-append}
-use Rattle.lines.proofs.LoopInvariant.{scan-whole, scan-open, few-of}
+use Rattle.lines.proofs.LoopInvariant.{scan-complete, scan-open, few-of}
 
 module _ (s : Session) (p : List ℕ) (room : ℕ) (a : Permitted s (length p) room) where
   abbrev setup : Setup
@@ -59,14 +60,15 @@ module _ (s : Session) (p : List ℕ) (room : ℕ) (a : Permitted s (length p) r
   held-count = count-held s facts
 
   turned : (f : First) → first (verdictOf setup) joint ≡ f → feedOf s p ≡ replyAtOnce s p f
-  turned f q = fed-at-once s p (allowed .sound) (allowed .piece) (allowed .session) ∙ ap (replyAtOnce s p) q
+  turned f q = fed-at-once s (allowed .sound) p (allowed .piece) (allowed .session) ∙ ap (replyAtOnce s p) q
 
   -- ---- a datagram came back
 
   pub record Handed : Type 0 where
     pub place : ℕ
-    pub whole : IsWhole setup joint place
-    pub reply : feedOf s p ≡ replyAfter s (place + lengthOf setup - s .count) (finds place (take (lengthOf setup) (drop place joint)) [])
+    pub size : ℕ
+    pub complete : IsComplete setup joint place size
+    pub reply : feedOf s p ≡ replyAfter s (place + size - s .count) (finds place (take size (drop place joint)) [])
 
   pub handed : feedOf s p .answer ≡ HandedOut → Handed
   unfolding replyAfter
@@ -77,14 +79,15 @@ module _ (s : Session) (p : List ℕ) (room : ℕ) (a : Permitted s (length p) r
           let w : feedOf s p .answer ≡ Waiting = ap (λ (r : Reply). r .answer) (turned (ends n l) q) in
           absurd (let z : _≡_ {A = ℕ} 0 1 = cc in omega arith)
       by (finds n d r) q =
-          let w = found-whole setup (facts .accepted) joint n (ap placeOf q) in
-          let L = lengthOf setup in
+          let w = found-complete setup (facts .accepted) joint n (ap placeOf q) in
+          let L = length d in
           let k : length p - length (drop (n + L) joint) ≡ n + L - s .count =
-          omega (arith, length-drop (n + L) joint, length-append (heldBytes s) p, held-count, w .within, count-less s facts)
+          omega (arith, length-drop (n + L) joint, length-append (heldBytes s) p, held-count, w .within, complete-length w, count-less s facts)
           in
           record {
             place = n;
-            whole = w;
+            size = L;
+            complete = w;
             reply =
                 turned (finds n (take L (drop n joint)) (drop (n + L) joint)) (w .scan)
                 ∙ ap (λ (m : ℕ). replyAfter s m (finds n (take L (drop n joint)) [])) k;
@@ -92,10 +95,10 @@ module _ (s : Session) (p : List ℕ) (room : ℕ) (a : Permitted s (length p) r
 
   module _ (H : Handed) where
     abbrev pub datagram : List ℕ
-    datagram = take (lengthOf setup) (drop (H .place) joint)
+    datagram = take (H .size) (drop (H .place) joint)
 
     abbrev taken : ℕ
-    taken = H .place + lengthOf setup - s .count
+    taken = H .place + H .size - s .count
 
     abbrev pub turn : Reply
     turn = replyAfter s taken (finds (H .place) datagram [])
@@ -106,21 +109,25 @@ module _ (s : Session) (p : List ℕ) (room : ℕ) (a : Permitted s (length p) r
     few : suc (s .history .datagrams .0) ≤ 2 ^ 30
     few = few-of setup (facts .accepted) (s .history .datagrams .0) (s .passed + s .count) (omega (arith, facts .sum, facts .most))
 
-    taken-within : taken ≤ length p
-    taken-within = omega (arith, H .whole .within, length-append (heldBytes s) p, held-count)
+    -- a datagram ends behind the bytes held
+    long : s .count < H .size
+    long = omega (arith, complete-length (H .complete), count-less s facts)
 
-    rest : drop (H .place + lengthOf setup) joint ≡ drop taken p
+    taken-within : taken ≤ length p
+    taken-within = omega (arith, H .complete .within, length-append (heldBytes s) p, held-count)
+
+    rest : drop (H .place + H .size) joint ≡ drop taken p
     rest =
-        let e : H .place + lengthOf setup ≡ length (heldBytes s) + taken = omega (arith, held-count, count-less s facts) in
+        let e : H .place + H .size ≡ length (heldBytes s) + taken = omega (arith, held-count, long) in
         ap (λ (n : ℕ). drop n joint) e ∙ drop-append-add (heldBytes s) p taken
 
     scanned : foundIn s p ≡ passing (H .place) (handing datagram (scanAt setup p taken))
     scanned =
-        scan-whole setup (facts .accepted) joint (H .place) (H .whole)
+        scan-complete setup (facts .accepted) joint (H .place) (H .complete)
         ∙ ap (λ (v : List ℕ). passing (H .place) (handing datagram (scan (verdictOf setup) v))) rest
 
     short : length line ≤ 307
-    short = line-short setup kept datagram (facts .axes) (H .whole .good) few
+    short = line-short setup kept datagram (facts .axes) (H .complete .good) few
 
     -- its line is the next one, and nothing refuses it
     pub first-line : lineOf setup (turn .session .history .datagrams .0) (turn .datagram) ≡ line
@@ -132,7 +139,7 @@ module _ (s : Session) (p : List ℕ) (room : ℕ) (a : Permitted s (length p) r
     unfolding replyAfter historyAfter historyNext tell datagramWith fieldsOf
     first-inside =
         ap (λ (n : ℕ). outside n (fieldsOf (setup .identifier) datagram .readings) (totalsOf (nextHistory setup kept datagram .axes))) (add-one (s .history .datagrams .0))
-        ∙ line-inside setup kept datagram (facts .axes) (H .whole .good) few
+        ∙ line-inside setup kept datagram (facts .axes) (H .complete .good) few
 
     pub first-short : length (lineOf setup (turn .session .history .datagrams .0) (turn .datagram)) ≤ 307
     first-short = subst (λ (t : List ℕ). length t ≤ 307) (sym first-line) short
@@ -147,7 +154,7 @@ module _ (s : Session) (p : List ℕ) (room : ℕ) (a : Permitted s (length p) r
           accepted = facts .accepted;
           within = taken-within;
           most = allowed .piece;
-          axes = right-next setup kept datagram (facts .axes) (H .whole .good);
+          axes = right-next setup kept datagram (facts .axes) (H .complete .good);
           few =
               omega (
                 arith,
@@ -156,13 +163,14 @@ module _ (s : Session) (p : List ℕ) (room : ℕ) (a : Permitted s (length p) r
                 mul-add (lengthOf setup) (s .history .datagrams .0) 1,
                 mul-one (lengthOf setup),
                 taken-within,
-                count-less s facts,
+                long,
+                complete-length (H .complete),
               );
-          passed = omega (arith, facts .sum, facts .most, H .whole .within, length-append (heldBytes s) p, held-count, count-less s facts, accepted-length setup (facts .accepted) .1, allowed .piece);
+          passed = omega (arith, facts .sum, facts .most, H .complete .within, length-append (heldBytes s) p, held-count, long, complete-length (H .complete), accepted-length setup (facts .accepted) .1, allowed .piece);
           roomy = omega (arith, allowed .piece);
         }
 
-    pub first-fed : turn .session .fed + (length p - turn .taken) ≤ limits .session
+    pub first-fed : turn .session .fed + (length p - turn .taken) ≤ limitsOf setup .session
     unfolding replyAfter
     first-fed = omega (arith, allowed .session, taken-within)
 
@@ -212,7 +220,7 @@ module _ (s : Session) (p : List ℕ) (room : ℕ) (a : Permitted s (length p) r
           let w : feedOf s p .answer ≡ HandedOut = ap (λ (r : Reply). r .answer) (turned (finds n d r) q) in
           absurd (let z : _≡_ {A = ℕ} 0 1 = cc in omega arith)
       by (ends n l) q =
-          let w = found-open setup (facts .accepted) joint n (ap placeOf q) in
+          let w = found-undecided setup (facts .accepted) joint n (ap placeOf q) in
           let h = drop n joint in
           let none : textOf setup kept (passing n (holding h)) ≡ [] = text-none setup kept n h in
           let zero : 0 ≡ 0 + length (textOf setup kept (passing n (holding h))) = omega (arith, ap length none) in

@@ -8,18 +8,18 @@ use native.Mathlib.Omega.{arith}
 use lib.ListN.{length, take, drop, length-append, length-drop, drop-of-length-le}
 use lib.Seq.{sets, length-sets, length-take-le, take-all, drop-drop}
 use Rattle.session.specs.History.{historyNext}
-use Rattle.session.specs.Session.{limits, sessionWith}
+use Rattle.session.specs.Session.{sessionWith}
 use Rattle.setup.specs.Setup.{rulingOn, lengthOf}
 use Rattle.setup.specs.declared.Setup.{Setup}
 use Rattle.setup.specs.declared.Ruling.the-variants.{Accepted}
 use Rattle.setup.proofs.Refusals.{accepted-length}
-use Rattle.scan.specs.Scan.{Scanned, holding, passing, handing, first, scan, Stable}
+use Rattle.scan.specs.Scan.{Scanned, holding, passing, handing, first, scan}
 use Rattle.scan.specs.Carry.{steps, carriedAfter}
 use Rattle.scan.proofs.ScanLaws.{scan-first, unrolled}
-use Rattle.scan.proofs.AmongLaws.{follows-stable}
-use Rattle.search.specs.Search.{isDatagram, verdictOf}
+use Rattle.scan.proofs.AmongLaws.{stable}
+use Rattle.search.specs.Search.{isDatagram, limitsOf, rulesOf, verdictOf}
 use Rattle.search.proofs.Datagrams.{lawful}
-use Rattle.search.proofs.Places.{to-end, IsWhole, IsOpen}
+use Rattle.search.proofs.Places.{to-end, IsComplete, IsUndecided, complete-length}
 use Rattle.session.specs.declared.Session.{Session}
 use Rattle.session.proofs.Soundness.{sound-facts}
 use Rattle.session.proofs.PieceRulings.{admitted}
@@ -30,24 +30,21 @@ use Rattle.lines.specs.PieceParts.{startOf, nextLine, textOf, nextOf, st
 use Rattle.lines.proofs.NextLines.{right-next, line-short, text-none, text-more}
 use Rattle.lines.proofs.Placing.{sets-append}
 
-pub stable-of : (u : Setup) → rulingOn u ≡ Accepted → Stable (verdictOf u)
-stable-of u a = follows-stable (verdictOf u) (isDatagram u) (lawful u a .follows)
-
 -- ---- the scan by what find tells
 
-pub scan-whole :
-    (u : Setup) → rulingOn u ≡ Accepted → (v : List ℕ) (n : ℕ) → IsWhole u v n
-    → scan (verdictOf u) v ≡ passing n (handing (take (lengthOf u) (drop n v)) (scan (verdictOf u) (drop (n + lengthOf u) v)))
-scan-whole u a v n w = scan-first (verdictOf u) (stable-of u a) v ∙ ap (unrolled (verdictOf u)) (w .scan)
+module _ (u : Setup) (a : rulingOn u ≡ Accepted) (v : List ℕ) (n : ℕ) where
+  pub scan-complete :
+      {size : ℕ} → IsComplete u v n size
+      → scan (verdictOf u) v ≡ passing n (handing (take size (drop n v)) (scan (verdictOf u) (drop (n + size) v)))
+  scan-complete w = scan-first (verdictOf u) (stable (rulesOf u) (lawful u a)) v ∙ ap (unrolled (verdictOf u)) (w .scan)
 
-pub scan-open :
-    (u : Setup) → rulingOn u ≡ Accepted → (v : List ℕ) (n : ℕ) → IsOpen u v n → scan (verdictOf u) v ≡ passing n (holding (drop n v))
-scan-open u a v n w = scan-first (verdictOf u) (stable-of u a) v ∙ ap (unrolled (verdictOf u)) (w .scan)
+  pub scan-open : IsUndecided u v n → scan (verdictOf u) v ≡ passing n (holding (drop n v))
+  scan-open w = scan-first (verdictOf u) (stable (rulesOf u) (lawful u a)) v ∙ ap (unrolled (verdictOf u)) (w .scan)
 
 -- ---- counts that stay in range
 
 -- few datagrams, of 18 bytes or more each
-pub few-of : (u : Setup) → rulingOn u ≡ Accepted → (n rest : ℕ) → lengthOf u * n + rest ≤ limits .session → n < 2 ^ 30
+pub few-of : (u : Setup) → rulingOn u ≡ Accepted → (n rest : ℕ) → lengthOf u * n + rest ≤ limitsOf u .session → n < 2 ^ 30
 few-of u a n rest h = omega (arith, mul-le-mul-right n (accepted-length u a .0))
 
 -- room for fewer bytes
@@ -100,25 +97,25 @@ module _ (u : Setup) (start : Progress) (p b₀ : List ℕ) where
 
   module _ (x : Progress) (b : List ℕ) (G : Invariant x b) (n : ℕ) where
     -- a datagram, and its line
-    module _ (w : IsWhole u (drop (x .at) p) n) where
+    module _ (size : ℕ) (w : IsComplete u (drop (x .at) p) n size) where
       abbrev it : List ℕ
-      it = take (lengthOf u) (drop n (drop (x .at) p))
+      it = take size (drop n (drop (x .at) p))
 
-      pub whole-within : x .at + (n + lengthOf u) ≤ length p
-      whole-within = omega (arith, w .within, length-drop (x .at) p, G .ready .within)
+      pub complete-within : x .at + (n + size) ≤ length p
+      complete-within = omega (arith, w .within, length-drop (x .at) p, G .ready .within)
 
-      pub whole-long : length it ≡ lengthOf u
-      whole-long = length-take-le (lengthOf u) (drop n (drop (x .at) p)) (omega (arith, w .within, length-drop n (drop (x .at) p)))
+      pub complete-long : length it ≡ size
+      complete-long = length-take-le size (drop n (drop (x .at) p)) (omega (arith, w .within, length-drop n (drop (x .at) p)))
 
-      next-place : drop (n + lengthOf u) (drop (x .at) p) ≡ drop (x .at + (n + length it)) p
-      next-place = drop-drop (n + lengthOf u) (x .at) p ∙ ap (λ (m : ℕ). drop (x .at + (n + m)) p) (sym whole-long)
+      next-place : drop (n + size) (drop (x .at) p) ≡ drop (x .at + (n + length it)) p
+      next-place = drop-drop (n + size) (x .at) p ∙ ap (λ (m : ℕ). drop (x .at + (n + m)) p) (sym complete-long)
 
       abbrev then-on : Scanned
       then-on = scanAt u p (x .at + (n + length it))
 
       scanned : scanAt u p (x .at) ≡ passing n (handing it then-on)
       scanned =
-          scan-whole u (G .ready .accepted) (drop (x .at) p) n w
+          scan-complete u (G .ready .accepted) (drop (x .at) p) n w
           ∙ ap (λ (l : List ℕ). passing n (handing it (scan (verdictOf u) l))) next-place
 
       lined : textOf u (x .history) (scanAt u p (x .at)) ≡ nextLine u (x .history) it ++ textOf u (steps (consumer u) (x .history) it) then-on
@@ -133,7 +130,7 @@ module _ (u : Setup) (start : Progress) (p b₀ : List ℕ) where
           record {
             ready =
                 subst (λ (room : ℕ). Ready u (nextOf u x n it) (length p) room) (sym (length-sets b (x .used) line))
-                (ready-next u x (length p) (length b) (G .ready) n it (w .good) whole-long whole-within);
+                (ready-next u x (length p) (length b) (G .ready) n it (w .good) (complete-long ∙ complete-length w) (omega (arith, complete-within, complete-length w)));
             same = length-sets b (x .used) line ∙ G .same;
             kept = sym (ap (λ (g : Scanned). carriedAfter (consumer u) k (g .datagrams)) scanned) ∙ G .kept;
             passed = omega (arith, G .passed, ap (λ (g : Scanned). g .passed) scanned);
@@ -143,9 +140,9 @@ module _ (u : Setup) (start : Progress) (p b₀ : List ℕ) where
           }
 
     -- no more datagram
-    module _ (w : IsOpen u (drop (x .at) p) n) where
-      pub open-within : x .at + n ≤ length p
-      open-within = omega (arith, w .within, length-drop (x .at) p, G .ready .within)
+    module _ (w : IsUndecided u (drop (x .at) p) n) where
+      pub undecided-within : x .at + n ≤ length p
+      undecided-within = omega (arith, w .within, length-drop (x .at) p, G .ready .within)
 
       opened : scanAt u p (x .at) ≡ passing n (holding (drop n (drop (x .at) p)))
       opened = scan-open u (G .ready .accepted) (drop (x .at) p) n w
@@ -162,8 +159,8 @@ module _ (u : Setup) (start : Progress) (p b₀ : List ℕ) where
             used = omega (arith, G .used, ap length unlined);
             text = sym (ap (sets b (x .used)) unlined) ∙ G .text;
             held = sym (drop-drop n (x .at) p) ∙ sym (ap (λ (g : Scanned). g .held) opened) ∙ G .held;
-            within = open-within;
-            short = omega (arith, w .short, length-drop (x .at) p, open-within);
+            within = undecided-within;
+            short = omega (arith, w .short, length-drop (x .at) p, undecided-within);
             fits = omega (arith, G .ready .roomy, G .same);
           }
 
@@ -172,8 +169,8 @@ module _ (u : Setup) (start : Progress) (p b₀ : List ℕ) where
   unfolding first
   finished-all x b G h =
       let none : drop (x .at) p ≡ [] = drop-of-length-le p {i = x .at} h in
-      let w : IsOpen u (drop (x .at) p) 0 =
-      subst (λ (l : List ℕ). IsOpen u l 0) (sym none)
+      let w : IsUndecided u (drop (x .at) p) 0 =
+      subst (λ (l : List ℕ). IsUndecided u l 0) (sym none)
       (record { scan = refl; within = omega arith; short = omega (arith, accepted-length u (G .ready .accepted) .0) }) in
       let same : stopped x 0 ≡ x =
       λ i. record { history = x .history; passed = add-zero (x .passed) i; at = add-zero (x .at) i; used = x .used } in

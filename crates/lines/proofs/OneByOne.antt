@@ -1,32 +1,33 @@
 -- The lines of a piece are those of the datagrams that calls of feed hand out, one after the other, and its session is the one that these leave.
 -- Assumes nothing.
-use Prim.Native.Nat.{ℕ, _+_, _^_, _≤_}
+use Prim.Native.Nat.{ℕ, _+_, _≤_}
 use mathlib.Core.Path.{_≡_, sym, ap, _∙_, subst}
 use mathlib.Core.Bool.{true}
 use mathlib.Core.List.{List, [], _∷_, _++_, append-nil}
 use lib.ListN.{length}
-use Rattle.setup.specs.Setup.{rulingOn, lengthOf}
+use Rattle.setup.specs.Setup.{rulingOn}
 use Rattle.setup.specs.declared.Setup.{Setup}
 use Rattle.setup.specs.declared.Ruling.the-variants.{Accepted}
 use Rattle.scan.specs.Scan.{scan}
-use Rattle.scan.specs.Front.{heldRule}
 use Rattle.scan.specs.Calls.{Report}
 use Rattle.scan.specs.Stream.{stream}
-use Rattle.scan.proofs.RunLaws.{Gives, Result, run-result, run-exists}
-use Rattle.scan.proofs.StreamLaws.{outcome-whole, stream-whole}
-use Rattle.search.specs.Search.{isDatagram, verdictOf}
-use Rattle.search.proofs.Datagrams.{lawful}
-use Rattle.session.specs.Session.{limits, heldBytes, isSound}
+use Rattle.scan.proofs.RunLaws.{Gives, Result, ready, run-result, run-exists}
+use Rattle.scan.proofs.StreamLaws.{outcome-taken, stream-whole}
+use Rattle.search.specs.Search.{limitsOf, rulesOf, verdictOf}
+use Rattle.search.proofs.Datagrams.{lawful, prompt}
+use Rattle.session.specs.Session.{heldBytes, isSound}
 use Rattle.session.specs.declared.Session.{Session}
 use Rattle.session.proofs.Soundness.{sound-facts}
 use Rattle.receiver.specs.declared.Datagram.{Datagram}
 use Rattle.receiver.specs.Feed.{consumer, SessionState, stateOf, sessionOf, Calls}
 use Rattle.receiver.proofs.Refinement.{SafeOf, state-safe, session-sound, session-state}
-use Rattle.receiver.proofs.HistoryInvariant.{kept}
+use Rattle.receiver.proofs.HistoryInvariant.{history-invariant}
+use Rattle.receiver.proofs.OneLength.{undecided-held}
 use Rattle.receiver.proofs.Agreement.{StateRun, run-of-states, run-of-sessions}
 use Rattle.lines.specs.Lines.{foundIn, answersIn, behind}
 
-module _ (s : Session) (p : List ℕ) (e : isSound s ≡ true) (few : length p ≤ 4096) (most : s .fed + length p ≤ 2 ^ 34) where
+module _ (s : Session) (p : List ℕ) (e : isSound s ≡ true) (few : length p ≤ limitsOf (s .setup) .piece)
+    (most : s .fed + length p ≤ limitsOf (s .setup) .session) where
   abbrev setup : Setup
   setup = s .setup
 
@@ -34,18 +35,20 @@ module _ (s : Session) (p : List ℕ) (e : isSound s ≡ true) (few : length p �
   ok = sound-facts s e .accepted
 
   -- the whole piece counts
-  streamed : stream limits (s .fed) (p ∷ []) ≡ p
+  streamed : stream (limitsOf setup) (s .fed) (p ∷ []) ≡ p
   unfolding stream
-  streamed = stream-whole limits (s .fed) p [] (outcome-whole limits (s .fed) (length p) few most) ∙ append-nil p
+  streamed = stream-whole (limitsOf setup) (s .fed) p [] (outcome-taken (limitsOf setup) (s .fed) (length p) few most) ∙ append-nil p
 
   -- what a run of calls on it gives
   module _ {os : List Datagram} {rs : List Report} {t : SessionState} (c : StateRun setup ok (stateOf s) (p ∷ []) os rs t) where
-    result : Result (consumer setup) (verdictOf setup) (isDatagram setup) (heldRule (setup .identifier) (lengthOf setup)) limits (lawful setup ok) (kept setup ok) (stateOf s) (p ∷ []) os rs t
-    result = run-result (consumer setup) (verdictOf setup) (isDatagram setup) (heldRule (setup .identifier) (lengthOf setup)) limits (lawful setup ok) (kept setup ok) c (state-safe s e)
+    result : Result (consumer setup) (rulesOf setup) (lawful setup ok) (history-invariant setup ok) (stateOf s) (p ∷ []) os rs t
+    result =
+        run-result (consumer setup) (rulesOf setup) (lawful setup ok) (history-invariant setup ok) (prompt setup ok .undecided) c (state-safe s e)
+        (ready (consumer setup) (rulesOf setup) (lawful setup ok) (history-invariant setup ok) (stateOf s) (p ∷ []) (undecided-held s e))
 
-    given : Gives (consumer setup) (verdictOf setup) (isDatagram setup) (heldRule (setup .identifier) (lengthOf setup)) limits (lawful setup ok) (kept setup ok) (stateOf s) (foundIn s p) (length p) os t
+    given : Gives (consumer setup) (rulesOf setup) (lawful setup ok) (history-invariant setup ok) (stateOf s) (foundIn s p) (length p) os t
     given =
-        subst (λ (v : List ℕ). Gives (consumer setup) (verdictOf setup) (isDatagram setup) (heldRule (setup .identifier) (lengthOf setup)) limits (lawful setup ok) (kept setup ok) (stateOf s) (scan (verdictOf setup) (heldBytes s ++ v)) (length v) os t)
+        subst (λ (v : List ℕ). Gives (consumer setup) (rulesOf setup) (lawful setup ok) (history-invariant setup ok) (stateOf s) (scan (verdictOf setup) (heldBytes s ++ v)) (length v) os t)
         streamed (result .gives)
 
     ends-behind : t ≡ behind s p
@@ -59,14 +62,14 @@ module _ (s : Session) (p : List ℕ) (e : isSound s ≡ true) (few : length p �
   -- the session behind the piece isn't turned down by 10
   pub behind-sound : isSound (sessionOf setup (behind s p)) ≡ true
   behind-sound =
-      let r = run-exists (consumer setup) (verdictOf setup) (isDatagram setup) (heldRule (setup .identifier) (lengthOf setup)) limits (lawful setup ok) (kept setup ok) (stateOf s) (state-safe s e) (p ∷ []) in
+      let r = run-exists (consumer setup) (rulesOf setup) (lawful setup ok) (history-invariant setup ok) (stateOf s) (state-safe s e) (p ∷ []) in
       session-sound setup ok (behind s p) (subst (SafeOf setup) (ends-behind (r .3)) (result (r .3) .safe))
 
   module _ (long : length (s .held) ≡ 64) where
     -- calls can be made on the piece until it is taken
     pub run : (os : List Datagram) × (rs : List Report) × (t : Session) × Calls s (p ∷ []) os rs t
     run =
-        let r = run-exists (consumer setup) (verdictOf setup) (isDatagram setup) (heldRule (setup .identifier) (lengthOf setup)) limits (lawful setup ok) (kept setup ok) (stateOf s) (state-safe s e) (p ∷ []) in
+        let r = run-exists (consumer setup) (rulesOf setup) (lawful setup ok) (history-invariant setup ok) (stateOf s) (state-safe s e) (p ∷ []) in
         let c = run-of-states setup ok (r .3) (state-safe s e) in
         (r .0, r .1, c .0, subst (λ (x : Session). Calls x (p ∷ []) (r .0) (r .1) (c .0)) (session-state s e long) (c .2))
 

@@ -12,9 +12,9 @@ use Rattle.text.specs.TextLine.{longestLine}
 use Rattle.scan.specs.Scan.{Scanned, scan}
 use Rattle.scan.specs.Stream.{joined}
 use Rattle.scan.specs.Carry.{steps, tells, told, carriedAfter}
-use Rattle.search.specs.Search.{verdictOf}
+use Rattle.search.specs.Search.{limitsOf, rulesOf, verdictOf}
 use Rattle.session.specs.History.{greatestCount}
-use Rattle.session.specs.Session.{limits, axesRight, pieceRuling}
+use Rattle.session.specs.Session.{axesRight, pieceRuling}
 use Rattle.session.specs.declared.History.{History}
 use Rattle.session.specs.declared.Session.{Session}
 use Rattle.receiver.specs.Feed.{consumer, SessionState, stateOf, sessionOf}
@@ -74,9 +74,9 @@ batchBy s used g n =
 pub record Ready (u : Setup) (x : Progress) (end room : ℕ) : Type 0 where
   pub accepted : rulingOn u ≡ Accepted
   pub within : x .at ≤ end
-  pub most : end ≤ limits .piece
+  pub most : end ≤ limitsOf u .piece
   pub axes : axesRight u (x .history .datagrams .0) (x .history .axes) ≡ true
-  pub few : lengthOf u * x .history .datagrams .0 + (end - x .at) ≤ limits .session
+  pub few : lengthOf u * x .history .datagrams .0 + (end - x .at) ≤ limitsOf u .session
   pub passed : x .passed + (end - x .at) ≤ greatestCount
   pub roomy : longestLine * (end - x .at) + 18 * x .used ≤ 18 * room
 
@@ -93,7 +93,7 @@ pub record Finished (u : Setup) (start : Progress) (p b b′ : List ℕ) (r : Pr
   -- the bytes from its place on are held
   pub held : drop (r .at) p ≡ scanAt u p (start .at) .held
   pub within : r .at ≤ length p
-  pub short : length p < r .at + lengthOf u
+  pub short : length p < r .at + rulesOf u .greatest
   pub fits : r .used ≤ length b
 
 -- the answer r and the buffer b′ behind n bytes, of which the scan is g, so many bytes being written before

@@ -9,9 +9,8 @@ ghost use Rattle.setup.specs.Setup.{rulingOn};
 ghost use Rattle.setup.specs.declared.Ruling.the-variants.{Accepted};
 ghost use Rattle.text.specs.TextLine.{lineText, outside};
 ghost use Rattle.text.specs.Putting.{Put};
-ghost use Rattle.search.specs.Search.{isDatagram};
+ghost use Rattle.search.specs.Search.{isDatagram, limitsOf};
 ghost use Rattle.session.specs.History.{greatestCount};
-ghost use Rattle.session.specs.Session.{limits};
 ghost use Rattle.lines.specs.Lines.{lineOf, foundIn, refusing, batchOf, batchBuffer};
 ghost use Rattle.lines.specs.PieceParts.{nextLine, startOf, nextOf, stopped, scanAt, Ready, Finished, Answered, Permitted};
 use motion::Gap;
@@ -151,18 +150,17 @@ fn lines_from(setup: Setup, start: Progress, piece: &[u8], buffer: &mut [u8]) ->
     requires { ⌜ Ready setup start (length (now piece)) (length (now buffer)) ⌝ }
     ensures { λ r. ⌜ Finished setup start (now (piece .entry)) (now (buffer .entry)) (now (buffer .exit)) r ⌝ }
 {
-    let size = setup::length_of(setup);
     let len = piece.len();
     let mut going = start;
     while going.at < len {
         let at = going.at;
         let rest = &piece[at..];
         match search::find(setup, rest) {
-            Place::Whole(skipped) => {
+            Place::Complete(skipped, size) => {
                 let end = skipped + size;
                 going = one_line(setup, going, skipped, &rest[skipped..end], buffer);
             }
-            Place::Open(skipped) => {
+            Place::Undecided(skipped) => {
                 return stop(going, skipped);
             }
         }
@@ -172,7 +170,7 @@ fn lines_from(setup: Setup, start: Progress, piece: &[u8], buffer: &mut [u8]) ->
 
 // The same for a session that holds nothing, with the session behind the piece.
 fn lines_of(session: Session, piece: &[u8], at: usize, used: usize, buffer: &mut [u8]) -> Batch
-    requires { ⌜ Ready (session .setup) (startOf session at used) (length (now piece)) (length (now buffer)) ⌝ ∗ ⌜ session .fed + (length (now piece) - at) ≤ limits .session ⌝ }
+    requires { ⌜ Ready (session .setup) (startOf session at used) (length (now piece)) (length (now buffer)) ⌝ ∗ ⌜ session .fed + (length (now piece) - at) ≤ limitsOf (session .setup) .session ⌝ }
     ensures { λ r. ⌜ Answered session used (scanAt (session .setup) (now (piece .entry)) at) (length (now (piece .entry)) - at) (now (buffer .entry)) (now (buffer .exit)) r ⌝ }
 {
     let setup = session.setup;

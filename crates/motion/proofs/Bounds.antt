@@ -1,4 +1,5 @@
--- Bounds of what is kept of an axis: a total grows by at most 2 ^ 23 in size with a datagram, so it stays within 2 ^ 53 (01, Totals). Assumes nothing.
+-- Bounds of what is kept of an axis: a total grows by at most 2 ^ 23 in size with a datagram, so it stays within 2 ^ 53 (01, Totals).
+-- Assumes nothing.
 use mathlib.Core.Path.{_≡_, refl, ap, _∙_}
 use mathlib.Core.Bool.{Bool, true, false, _&&_, cond}
 use mathlib.Core.List.{List, [], _∷_}
@@ -56,7 +57,8 @@ axis-bound : (a : Axis) (d : Sighting) (n : ℕ) → natAbs (a .total) ≤ n * 8
 axis-bound a d n h = axis-keeps (Bounded (suc n)) a d (omega arith) (fit-bound a (d .reading) n h)
 
 -- n datagrams of 2 ^ 23 steps each, and one more
-pub step-bound : (kept : Bool) (a : Axis) (d : Sighting) (n : ℕ) → natAbs (a .total) ≤ n * 8388608 → natAbs (keptStep kept a d .total) ≤ suc n * 8388608
+pub step-bound : (kept : Bool) (a : Axis) (d : Sighting) (n : ℕ) → natAbs (a .total) ≤ n * 8388608
+    → natAbs (keptStep kept a d .total) ≤ suc n * 8388608
 step-bound kept a d n h = kept-keeps (Bounded (suc n)) kept a d (omega arith) (axis-bound a d n h)
 
 -- they stay within 2 ^ 53 as long as there are at most 2 ^ 30 datagrams
@@ -73,7 +75,9 @@ last-range kept a d p q = kept-keeps (λ x. InRange (x .last)) kept a d p (axis-
 
 pub not-begun : (kept : Bool) (a : Axis) (d : Sighting) → keptStep kept a d .begun ≡ false → keptStep kept a d ≡ a
 unfolding fitStep
-not-begun kept a d = kept-keeps (λ x. x .begun ≡ false → x ≡ a) kept a d (λ e. refl) (axis-keeps (λ x. x .begun ≡ false → x ≡ a) a d (λ e. refl) (λ e. let z : _≡_ {A = ℕ} 0 1 = cc in absurd (omega arith)))
+not-begun kept a d =
+    kept-keeps (λ x. x .begun ≡ false → x ≡ a) kept a d (λ e. refl)
+    (axis-keeps (λ x. x .begun ≡ false → x ≡ a) a d (λ e. refl) (λ e. let z : _≡_ {A = ℕ} 0 1 = cc in absurd (omega arith)))
 
 -- ---- an axis that keeps no total stays as it is, and one that keeps it goes by 01's step
 
@@ -81,7 +85,7 @@ pub step-not-kept : (a : Axis) (d : Sighting) → keptStep false a d ≡ a
 unfolding keptStep
 step-not-kept a d = refl
 
-pub step-within : (a : Axis) (d : Sighting) → natAbs (a .total) ≤ 2 ^ 53 → keptStep true a d ≡ axisStep a d
+step-within : (a : Axis) (d : Sighting) → natAbs (a .total) ≤ 2 ^ 53 → keptStep true a d ≡ axisStep a d
 unfolding keptStep
 step-within a d h = rw (le-within (2 ^ 53) (a .total) h)
 
@@ -105,14 +109,16 @@ unfolding keptAfter
 after-not-kept a [] = refl
 after-not-kept a (d ∷ ds) = after-not-kept (keptStep false a d) ds ∙ step-not-kept a d
 
-pub after-within : (a : Axis) (ds : List Sighting) (n : ℕ) → natAbs (a .total) ≤ n * 8388608 → n + length ds ≤ 2 ^ 30 → keptAfter true a ds ≡ after a ds
+pub after-within : (a : Axis) (ds : List Sighting) (n : ℕ) → natAbs (a .total) ≤ n * 8388608 → n + length ds ≤ 2 ^ 30
+    → keptAfter true a ds ≡ after a ds
 unfolding keptAfter after
 after-within a [] n h k = refl
 after-within a (d ∷ ds) n h k =
     ap (λ (x : Axis). keptAfter true x ds) (step-within a d (total-small n (a .total) (omega arith) h))
     ∙ after-within (axisStep a d) ds (suc n) (axis-bound a d n h) (omega arith)
 
-pub after-bound : (kept : Bool) (a : Axis) (ds : List Sighting) (n : ℕ) → natAbs (a .total) ≤ n * 8388608 → natAbs (keptAfter kept a ds .total) ≤ (n + length ds) * 8388608
+pub after-bound : (kept : Bool) (a : Axis) (ds : List Sighting) (n : ℕ) → natAbs (a .total) ≤ n * 8388608
+    → natAbs (keptAfter kept a ds .total) ≤ (n + length ds) * 8388608
 unfolding keptAfter
 after-bound kept a [] n h = omega arith
 after-bound kept a (d ∷ ds) n h = let k = after-bound kept (keptStep kept a d) ds (suc n) (step-bound kept a d n h) in omega arith

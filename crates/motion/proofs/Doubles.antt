@@ -1,5 +1,5 @@
--- Every double is exact: a whole number of at most 2 ^ 53 in size over a power of two of at most 2 ^ 31 is a double, and the only one of its value (01, Status, doubles,
--- gaps; Totals). Assumes nothing.
+-- Every double is exact: a whole number of at most 2 ^ 53 in size over a power of two of at most 2 ^ 31 is a double, and the only one of its
+-- value (01, Status, doubles, gaps; Totals). Assumes nothing.
 use mathlib.Core.Path.{_≡_, refl, sym, ap, _∙_, subst}
 use mathlib.Core.Bool.{Bool, true, false, cond}
 use mathlib.Core.List.{List, [], _∷_}
@@ -20,11 +20,13 @@ use lib.Ieee.Scale.{round-same}
 use lib.Ieee.Nearest.{div-same}
 use lib.Ieee.Bits.{ofBits-toBits}
 use Rattle.integers.proofs.Ranges.{le-within}
-use Rattle.setup.specs.declared.Setup.{Setup}
-use Rattle.motion.specs.declared.Values.the-variants.{Instantaneous, Incremental, Average, Integrated}
+use Rattle.setup.specs.Setup.{unitNumber}
+use Rattle.setup.specs.declared.Unit.{Unit}
+use Rattle.setup.specs.declared.Unit.the-variants.{Instantaneous, Incremental, Average, Integrated}
+use Rattle.setup.proofs.Refusals.{each}
 use Rattle.motion.specs.declared.Axis.{Axis}
 use Rattle.motion.specs.Totals.{totalDouble}
-use Rattle.motion.specs.Doubles.{negative, quotient, plusZero, knownShift, unitOf, doublesIn, knownUnit, valuesIn, valuesOf, valuesAt, Told}
+use Rattle.motion.specs.Doubles.{negative, quotient, plusZero, knownShift, unitOf, doublesIn, valuesIn, valuesOf}
 
 -- ---- what the code computes: a quotient of two floats that have whole values is rounded once
 
@@ -39,7 +41,10 @@ unlike-false false = refl
 
 cross : (x y a b u v : ℕ) → x ≡ a * u → y ≡ b * v → x * v * b ≡ a * (y * u)
 cross x y a b u v e f =
-    ap (λ (z : ℕ). z * v * b) e ∙ mul-assoc (a * u) v b ∙ mul-assoc a u (v * b) ∙ ap (λ (z : ℕ). a * z) (mul-comm u (v * b) ∙ ap (λ (z : ℕ). z * u) (mul-comm v b ∙ sym f))
+    ap (λ (z : ℕ). z * v * b) e
+    ∙ mul-assoc (a * u) v b
+    ∙ mul-assoc a u (v * b)
+    ∙ ap (λ (z : ℕ). a * z) (mul-comm u (v * b) ∙ ap (λ (z : ℕ). z * u) (mul-comm v b ∙ sym f))
 
 div-values : (f : Format) (x y : Float) (s : Bool) (a b : ℕ) → 0 < b → HasValue x s a 1 → HasValue y false b 1 → div f x y ≡ round f s a b
 unfolding div
@@ -47,7 +52,8 @@ div-values f (fin s' m e) (fin t n d) s a b h p q =
     let ex : m * up e ≡ a * down e = sym (mul-one (m * up e)) ∙ p .1 in
     let ey : n * up d ≡ b * down d = sym (mul-one (n * up d)) ∙ q .1 in
     let bp : 0 < n * up d * down e = mul-pos (subst (λ (z : ℕ). 0 < z) (sym ey) (mul-pos h (down-pos d))) (down-pos e) in
-    ap (λ (c : Bool). cond c (cond (eqb m 0) nan (inf (unlike s' t))) (round f (unlike s' t) (m * up e * down d) (n * up d * down e))) (not-zero n d b h (q .1))
+    ap (λ (c : Bool). cond c (cond (eqb m 0) nan (inf (unlike s' t))) (round f (unlike s' t) (m * up e * down d) (n * up d * down e)))
+    (not-zero n d b h (q .1))
     ∙ ap (λ (c : Bool). round f (unlike s' c) (m * up e * down d) (n * up d * down e)) (q .0)
     ∙ ap (λ (c : Bool). round f c (m * up e * down d) (n * up d * down e)) (unlike-false s' ∙ p .0)
     ∙ round-same f s (m * up e * down d) (n * up d * down e) a b bp h (cross (m * up e) (n * up d) a b (down e) (down d) ex ey)
@@ -94,7 +100,8 @@ at-top : (s : Bool) (k : ℕ) → k ≤ 31 → HasValue (round binary64 s (2 ^ 5
 at-top s k b =
     let l : k ≤ 1127 = omega arith in
     let m : 1127 - k < 2098 = omega arith in
-    round-exact binary64 s (2 ^ 53) (2 ^ k) 1 (1127 - k) (pow-pos k) (lit< tt) (subst (λ (x : ℕ). x < 2 ^ 2098) (sym (one-mul (2 ^ (1127 - k)))) (pow-lt m))
+    round-exact binary64 s (2 ^ 53) (2 ^ k) 1 (1127 - k) (pow-pos k) (lit< tt)
+    (subst (λ (x : ℕ). x < 2 ^ 2098) (sym (one-mul (2 ^ (1127 - k)))) (pow-lt m))
     (sym (pow-add 2 53 1074) ∙ whole-power k 1127 l ∙ ap (λ (x : ℕ). x * 2 ^ k) (sym (one-mul (2 ^ (1127 - k)))))
 
 exact-by : (s : Bool) (n k : ℕ) → k ≤ 31 → (n ≡ 2 ^ 53) ⊎ (n < 2 ^ 53) → HasValue (round binary64 s n (2 ^ k)) s n (2 ^ k)
@@ -123,9 +130,12 @@ value-unique : (f : Format) (x y : Float) (s : Bool) (a c : ℕ) → 0 < c → T
 value-unique f x y s a c h p q v w =
     sym (ofBits-toBits f x p) ∙ ap (ofBits f) (bits-by-value f x s a c h v ∙ sym (bits-by-value f y s a c h w)) ∙ ofBits-toBits f y q
 
-pub only : (n : ℤ) (k : ℕ) → natAbs n ≤ 2 ^ 53 → k ≤ 31 → (x : Float) → T (fits binary64 x) → HasValue x (negative n) (natAbs n) (2 ^ k) → x ≡ quotient n k
+pub only : (n : ℤ) (k : ℕ) → natAbs n ≤ 2 ^ 53 → k ≤ 31
+    → (x : Float) → T (fits binary64 x) → HasValue x (negative n) (natAbs n) (2 ^ k) → x ≡ quotient n k
 unfolding quotient
-only n k h b x p v = value-unique binary64 x (quotient n k) (negative n) (natAbs n) (2 ^ k) (pow-pos k) p (round-fits binary64 (negative n) (natAbs n) (2 ^ k)) v (exact n k h b)
+only n k h b x p v =
+    value-unique binary64 x (quotient n k) (negative n) (natAbs n) (2 ^ k) (pow-pos k) p (round-fits binary64 (negative n) (natAbs n) (2 ^ k))
+    v (exact n k h b)
 
 -- ---- zero is +0
 
@@ -137,7 +147,7 @@ pub zero-plus : (k : ℕ) → quotient (pos 0) k ≡ plusZero
 unfolding quotient
 zero-plus k = round-same binary64 false 0 (2 ^ k) 0 1 (pow-pos k) (lit< tt) (zero-mul 1 ∙ sym (zero-mul (2 ^ k))) ∙ plus
 
--- ---- shifts and units of a setup
+-- ---- shifts of a setup
 
 pub shift-small : (k : ℕ) → knownShift k ≤ 31
 unfolding knownShift
@@ -161,14 +171,15 @@ module _ (n : ℤ) (shift : ℕ) (h : natAbs n ≤ 2 ^ 31) where
   reading-only = only n (knownShift shift) (omega arith) (shift-small shift)
 
 module _ (a : Axis) (shift : ℕ) (h : natAbs (a .total) ≤ 2 ^ 53) where
-  pub total-quotient : totalDouble a shift ≡ quotient (a .total) (knownShift shift)
+  total-quotient : totalDouble a shift ≡ quotient (a .total) (knownShift shift)
   unfolding totalDouble
   total-quotient = rw (le-within (2 ^ 53) (a .total) h)
 
   pub total-exact : HasValue (totalDouble a shift) (negative (a .total)) (natAbs (a .total)) (2 ^ knownShift shift)
   total-exact = rw total-quotient (exact (a .total) (knownShift shift) h (shift-small shift))
 
-  pub total-only : (x : Float) → T (fits binary64 x) → HasValue x (negative (a .total)) (natAbs (a .total)) (2 ^ knownShift shift) → x ≡ totalDouble a shift
+  pub total-only : (x : Float) → T (fits binary64 x)
+      → HasValue x (negative (a .total)) (natAbs (a .total)) (2 ^ knownShift shift) → x ≡ totalDouble a shift
   total-only x p v = only (a .total) (knownShift shift) h (shift-small shift) x p v ∙ sym total-quotient
 
 pub total-plus : (a : Axis) (shift : ℕ) → a .total ≡ pos 0 → totalDouble a shift ≡ plusZero
@@ -177,47 +188,31 @@ total-plus a shift e = rw (e, zero-plus (knownShift shift))
 
 -- ---- the values of a group are told by their unit and their doubles
 
--- a unit that is none of 1, 2 and 3 counts as 0
-pub unit-other : (unit : ℕ) → (unit ≡ 1 → ⊥) → (unit ≡ 2 → ⊥) → (unit ≡ 3 → ⊥) → knownUnit unit ≡ 0
-unfolding knownUnit
-unit-other unit a b c = by unit (leb unit 3) refl a b c
-  where
-    by : (n : ℕ) (t : Bool) → leb n 3 ≡ t → (n ≡ 1 → ⊥) → (n ≡ 2 → ⊥) → (n ≡ 3 → ⊥) → cond t n 0 ≡ 0
-    by n true e a b c = let h : n ≤ 3 = leb-true n 3 e in omega arith
-    by n false e a b c = refl
-
-pub unit-known : (unit : ℕ) → unit ≤ 3 → knownUnit unit ≡ unit
-unfolding knownUnit
-unit-known unit h = rw (le-leb unit 3 h)
-
-unit-small : (unit : ℕ) → knownUnit unit ≤ 3
-unfolding knownUnit
-unit-small unit = by (leb unit 3) refl
-  where
-    by : (t : Bool) → leb unit 3 ≡ t → cond t unit 0 ≤ 3
-    by true e = leb-true unit 3 e
-    by false e = omega arith
-
-unit-in : (unit : ℕ) → unit ≤ 3 → (x y z : Float) → unitOf (valuesIn unit x y z) ≡ unit
+unit-in : (unit : Unit) (x y z : Float) → unitOf (valuesIn unit x y z) ≡ unitNumber unit
 unfolding valuesIn
-unit-in zero h x y z = refl
-unit-in (suc zero) h x y z = refl
-unit-in (suc (suc zero)) h x y z = refl
-unit-in (suc (suc (suc zero))) h x y z = refl
-unit-in (suc (suc (suc (suc n)))) h x y z = absurd (omega arith)
+unit-in Instantaneous x y z = refl
+unit-in Incremental x y z = refl
+unit-in Average x y z = refl
+unit-in Integrated x y z = refl
 
-doubles-in : (unit : ℕ) (x y z : Float) → doublesIn (valuesIn unit x y z) ≡ x ∷ y ∷ z ∷ []
+doubles-in : (unit : Unit) (x y z : Float) → doublesIn (valuesIn unit x y z) ≡ x ∷ y ∷ z ∷ []
 unfolding valuesIn
-doubles-in unit x y z = by (eqb unit 0) (eqb unit 1) (eqb unit 2)
-  where
-    by : (a b c : Bool) → doublesIn (cond a (Instantaneous x y z) (cond b (Incremental x y z) (cond c (Average x y z) (Integrated x y z)))) ≡ x ∷ y ∷ z ∷ []
-    by true b c = refl
-    by false true c = refl
-    by false false true = refl
-    by false false false = refl
+doubles-in Instantaneous x y z = refl
+doubles-in Incremental x y z = refl
+doubles-in Average x y z = refl
+doubles-in Integrated x y z = refl
 
-pub values-told : (s : Setup) (readings : List (List ℤ)) (group : ℕ) → Told s readings group (valuesAt s readings group)
-unfolding valuesOf
-values-told s readings group =
-    let u = getD (s .units) group 0 in
-    record { unit = unit-in (knownUnit u) (unit-small u) _ _ _; doubles = doubles-in (knownUnit u) _ _ _ }
+module _ (unit : Unit) (shift : ℕ) (readings : List ℤ) where
+  -- they come back under 01's number of the unit
+  pub values-unit : unitOf (valuesOf unit shift readings) ≡ unitNumber unit
+  unfolding valuesOf
+  values-unit = unit-in unit _ _ _
+
+  -- with a double for each reading
+  pub values-double : (axis : ℕ) → axis < 3
+      → getD (doublesIn (valuesOf unit shift readings)) axis plusZero ≡ quotient (getD readings axis (pos 0)) (knownShift shift)
+  unfolding valuesOf
+  values-double axis h =
+      let double : ℕ → Float = λ n. quotient (getD readings n (pos 0)) (knownShift shift) in
+      ap (λ (l : List Float). getD l axis plusZero) (doubles-in unit (double 0) (double 1) (double 2))
+      ∙ each (λ (n : ℕ). getD (double 0 ∷ double 1 ∷ double 2 ∷ []) n plusZero ≡ double n) refl refl refl axis h

@@ -1,18 +1,17 @@
 -- Laws of gaps (01, Status, doubles, gaps). Assumes nothing.
 use Prim.Native.Nat.{ℕ, zero, suc, _+_, _-_, _*_, _/_, _%_, _≤_, _<_}
-use mathlib.Core.Bool.{Bool, true, false, _||_, cond}
+use mathlib.Core.Bool.{Bool, true, false, cond}
 use mathlib.Core.List.{[], _∷_}
 use mathlib.Core.Path.{_≡_, refl, ap, _∙_}
 use native.Mathlib.Nat.{div-add-mod', le-div-iff-mul-le, zero-mul, mul-mod-left, mul-div-cancel}
 use native.Mathlib.Omega.{arith}
 use lib.Dec.{eqb}
 use lib.IntN.{pos, _-ℤ_}
-use borrow.Author.Tests.{eqb-true, eqb-false, ne-eqb}
+use borrow.Author.Tests.{eqb-false, ne-eqb}
 use Rattle.integers.specs.Rounding.{residue}
 use Rattle.integers.proofs.Parts.{sub-parts}
 use Rattle.integers.proofs.Rounding.{residue-below, floor-split}
-use Rattle.setup.specs.Setup.{rateListed}
-use Rattle.motion.specs.Gaps.{samples, missedIn, knownRate, stepAt, elapsed, missedAfter, gapAt}
+use Rattle.motion.specs.Gaps.{samples, missedIn, stepAt, elapsed, missedAfter, gapAt}
 
 -- the samples between two counters as code has them
 modulo-bytes : (previous counter : ℕ) → previous ≤ 256 → (counter + 256 - previous) % 256 ≡ residue (pos counter -ℤ pos previous) 256
@@ -23,7 +22,8 @@ modulo-bytes p n h =
     let e = sub-parts (pos n) (pos p) in
     omega arith
 
-pub elapsed-code : (previous counter d : ℕ) → previous ≤ 256 → d ≡ (counter + 256 - previous) % 256 → samples (cond (eqb d 0) 256 d) ≡ elapsed previous counter
+pub elapsed-code : (previous counter d : ℕ) → previous ≤ 256 → d ≡ (counter + 256 - previous) % 256
+    → samples (cond (eqb d 0) 256 d) ≡ elapsed previous counter
 unfolding elapsed
 elapsed-code p n d h e = ap (λ (x : ℕ). samples (cond (eqb x 0) 256 x)) (e ∙ modulo-bytes p n h)
 
@@ -36,27 +36,8 @@ pub elapsed-range : (previous counter : ℕ) → (0 < elapsed previous counter .
 unfolding elapsed
 elapsed-range p n = let d = residue (pos n -ℤ pos p) 256 in picked d (eqb d 0) refl (residue-below (pos n -ℤ pos p) 256 (omega arith))
 
--- a listed rate is at most 2,000, so that from one datagram to the next there is a sample at least
-or-eqb : (b : Bool) (r k : ℕ) → (b ≡ true → r ≤ 2000) → k ≤ 2000 → (b || eqb r k) ≡ true → r ≤ 2000
-or-eqb true r k f h e = f refl
-or-eqb false r k f h e = let i : r ≡ k = eqb-true r k e in omega arith
-
-pub rate-most : (rate : ℕ) → knownRate rate ≤ 2000
-unfolding knownRate
-rate-most r =
-    let none : _≡_ {A = Bool} false true → r ≤ 2000 = λ e. (let z : _≡_ {A = ℕ} 0 1 = cc in absurd (omega arith)) in
-    let slow = or-eqb _ r 250 (or-eqb _ r 125 (or-eqb false r 0 none (omega arith)) (omega arith)) (omega arith) in
-    by (rateListed r) (or-eqb _ r 2000 (or-eqb _ r 1000 (or-eqb _ r 500 slow (omega arith)) (omega arith)) (omega arith))
-  where
-    by : (b : Bool) → (b ≡ true → r ≤ 2000) → cond b r 0 ≤ 2000
-    by true f = f refl
-    by false f = omega arith
-
-pub rate-known : (rate : ℕ) → rateListed rate ≡ true → knownRate rate ≡ rate
-unfolding knownRate
-rate-known r e = rw e
-
-pub step-positive : (rate : ℕ) → 0 < rate → rate ≤ 2000 → 0 < 2000 / rate
+-- up to a rate of 2,000 there is a sample at least from one datagram to the next
+step-positive : (rate : ℕ) → 0 < rate → rate ≤ 2000 → 0 < 2000 / rate
 step-positive r h k = le-div-iff-mul-le {k = r} {x = 1} {y = 2000} h .1 (omega arith)
 
 -- what s divides is at least once s
@@ -96,7 +77,8 @@ module _ (rate previous counter : ℕ) (h : 0 < rate) where
   unfolding gapAt
   later = rw (ne-eqb rate 0 (λ e. omega arith))
 
-  pub missed-steps : (n : ℕ) → rate ≤ 2000 → elapsed previous counter .0 ≡ (n + 1) * (2000 / rate) → missedIn (gapAt rate false previous counter) ≡ n ∷ []
+  pub missed-steps : (n : ℕ) → rate ≤ 2000 → elapsed previous counter .0 ≡ (n + 1) * (2000 / rate)
+      → missedIn (gapAt rate false previous counter) ≡ n ∷ []
   missed-steps n k e = ap missedIn later ∙ exact-steps (2000 / rate) (elapsed previous counter .0) n (step-positive rate h k) e
 
   pub off-step : (elapsed previous counter .0 % (2000 / rate) ≡ 0 → ⊥) → missedIn (gapAt rate false previous counter) ≡ []

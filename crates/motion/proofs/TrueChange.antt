@@ -12,10 +12,12 @@ use Rattle.integers.proofs.Rounding.{floor-near, floor-within}
 use Rattle.integers.proofs.Folding.{range-of-abs, fold-id, fold-sub}
 use Rattle.motion.specs.declared.Axis.{Axis}
 use Rattle.motion.proofs.Bounds.{keptAfter, after-within}
-use Rattle.motion.specs.Totals.{Sighting, difference, fitStep, axisStep, after, fitReadings, fitBefore, none, readingOf, CloseFrom, Close, Stands}
+use Rattle.motion.specs.Totals.{Sighting, difference, fitStep, axisStep, after, fitReadings, fitBefore, none}
+use Rattle.motion.specs.Totals.{readingOf, CloseFrom, Close, Stands}
 
 -- the difference of two readings is that of the true values rounded down, where these are close
-pub difference-of : (d : ℕ) → 0 < d → (t u : ℤ) → natAbs (u -ℤ t) < (2 ^ 23 - 1) * d → difference (readingOf d u) (readingOf d t) ≡ floor u d -ℤ floor t d
+difference-of : (d : ℕ) → 0 < d → (t u : ℤ) → natAbs (u -ℤ t) < (2 ^ 23 - 1) * d
+    → difference (readingOf d u) (readingOf d t) ≡ floor u d -ℤ floor t d
 unfolding difference readingOf
 difference-of d h t u k =
     let x = floor u d -ℤ floor t d in
@@ -24,11 +26,11 @@ difference-of d h t u k =
 
 -- ---- a fit datagram and an unfit one
 
-pub step-fit : (a : Axis) (s : Sighting) → s .fit ≡ true → axisStep a s ≡ fitStep a (s .reading)
+step-fit : (a : Axis) (s : Sighting) → s .fit ≡ true → axisStep a s ≡ fitStep a (s .reading)
 unfolding axisStep
 step-fit a s e = rw e
 
-pub step-unfit : (a : Axis) (s : Sighting) → s .fit ≡ false → axisStep a s ≡ a
+step-unfit : (a : Axis) (s : Sighting) → s .fit ≡ false → axisStep a s ≡ a
 unfolding axisStep
 step-unfit a s e = rw e
 
@@ -71,18 +73,21 @@ module _ (d : ℕ) (h : 0 < d) (t₀ : ℤ) where
   unfolding AtEach fitBefore fitReadings after
   after-unfit a s ds ts e f zero l g = let z : _≡_ {A = ℕ} 0 1 = cc in absurd (omega arith)
   after-unfit a s ds ts e f (suc i) l g =
+      let rs = fitReadings (take i ds) in
       subst (λ (x : Axis). Stands d t₀ (getD ts (fitBefore (s ∷ ds) (suc i)) (pos 0)) (after x (take (suc i) ds))) (sym (step-unfit a s e))
-      (subst (λ (b : Bool). Stands d t₀ (getD ts (length (cond b (s .reading ∷ fitReadings (take i ds)) (fitReadings (take i ds)))) (pos 0)) (after a (take (suc i) ds))) (sym e)
+      (subst (λ (b : Bool). Stands d t₀ (getD ts (length (cond b (s .reading ∷ rs) rs)) (pos 0)) (after a (take (suc i) ds))) (sym e)
       (f i (omega arith) g))
 
-  after-fit : (a : Axis) (s : Sighting) (ds : List Sighting) (u : ℤ) (us : List ℤ) → s .fit ≡ true → axisStep a s ≡ standing d t₀ u → AtEach (standing d t₀ u) ds us → AtEach a (s ∷ ds) (u ∷ us)
+  after-fit : (a : Axis) (s : Sighting) (ds : List Sighting) (u : ℤ) (us : List ℤ) → s .fit ≡ true → axisStep a s ≡ standing d t₀ u
+      → AtEach (standing d t₀ u) ds us → AtEach a (s ∷ ds) (u ∷ us)
   unfolding AtEach fitBefore fitReadings after
   after-fit a s ds u us e q f zero l g = stands d h t₀ u q
   after-fit a s ds u us e q f (suc i) l g =
-      subst (λ (x : Axis). Stands d t₀ (getD (u ∷ us) (fitBefore (s ∷ ds) (suc i)) (pos 0)) (after x (take (suc i) ds))) (sym q)
-      (subst
-      (λ (b : Bool). Stands d t₀ (getD (u ∷ us) (length (cond b (s .reading ∷ fitReadings (take i ds)) (fitReadings (take i ds)))) (pos 0)) (after (standing d t₀ u) (take (suc i) ds)))
-      (sym e) (f i (omega arith) g))
+      let rs = fitReadings (take i ds) in
+      let x = after (standing d t₀ u) (take (suc i) ds) in
+      subst (λ (y : Axis). Stands d t₀ (getD (u ∷ us) (fitBefore (s ∷ ds) (suc i)) (pos 0)) (after y (take (suc i) ds))) (sym q)
+      (subst (λ (b : Bool). Stands d t₀ (getD (u ∷ us) (length (cond b (s .reading ∷ rs) rs)) (pos 0)) x) (sym e)
+      (f i (omega arith) g))
 
   at-each : (ds : List Sighting) (ts : List ℤ) (a : Axis) → Awaits a ts → fitReadings ds ≡ map (readingOf d) ts → AtEach a ds ts
   unfolding AtEach fitReadings
@@ -100,17 +105,20 @@ module _ (d : ℕ) (h : 0 < d) (t₀ : ℤ) where
           let n = next w in
           after-fit a s ds u us p (step-fit a s p ∙ ap (fitStep a) g ∙ n .0) (r us (standing d t₀ u) (going u refl (n .1)) k)
 
--- Where the fit ones carry, in order, the true values ts rounded down and folded, neighbours of which are close: after the datagram at each place i, if that is fit, the axis
--- stands for the change from the first of ts to the one that this datagram carries.
-pub total-at-each : (d : ℕ) → 0 < d → (a : Axis) → a .begun ≡ false → (ds : List Sighting) (ts : List ℤ) → fitReadings ds ≡ map (readingOf d) ts → Close d ts
-    → (i : ℕ) → i < length ds → getD ds i none .fit ≡ true → Stands d (getD ts 0 (pos 0)) (getD ts (fitBefore ds i) (pos 0)) (after a (take (suc i) ds))
+-- Where the fit ones carry, in order, the true values ts rounded down and folded, neighbours of which are close: after the datagram at each
+-- place i, if that is fit, the axis stands for the change from the first of ts to the one that this datagram carries.
+pub total-at-each : (d : ℕ) → 0 < d → (a : Axis) → a .begun ≡ false
+    → (ds : List Sighting) (ts : List ℤ) → fitReadings ds ≡ map (readingOf d) ts → Close d ts
+    → (i : ℕ) → i < length ds → getD ds i none .fit ≡ true
+    → Stands d (getD ts 0 (pos 0)) (getD ts (fitBefore ds i) (pos 0)) (after a (take (suc i) ds))
 unfolding AtEach
 total-at-each d h a e ds ts f k = at-each d h (getD ts 0 (pos 0)) ds ts a (idle e refl k) f
 
 -- the same of the axis as the code steps it, for a total within n datagrams' bound and at most 2 ^ 30 datagrams in all
-pub kept-at-each : (d : ℕ) → 0 < d → (a : Axis) (n : ℕ) → a .begun ≡ false → natAbs (a .total) ≤ n * 8388608 → (ds : List Sighting) (ts : List ℤ) → n + length ds ≤ 2 ^ 30
-    → fitReadings ds ≡ map (readingOf d) ts → Close d ts
-    → (i : ℕ) → i < length ds → getD ds i none .fit ≡ true → Stands d (getD ts 0 (pos 0)) (getD ts (fitBefore ds i) (pos 0)) (keptAfter true a (take (suc i) ds))
+pub kept-at-each : (d : ℕ) → 0 < d → (a : Axis) (n : ℕ) → a .begun ≡ false → natAbs (a .total) ≤ n * 8388608
+    → (ds : List Sighting) (ts : List ℤ) → n + length ds ≤ 2 ^ 30 → fitReadings ds ≡ map (readingOf d) ts → Close d ts
+    → (i : ℕ) → i < length ds → getD ds i none .fit ≡ true
+    → Stands d (getD ts 0 (pos 0)) (getD ts (fitBefore ds i) (pos 0)) (keptAfter true a (take (suc i) ds))
 kept-at-each d h a n e b ds ts m f k i l g =
     subst (λ (x : Axis). Stands d (getD ts 0 (pos 0)) (getD ts (fitBefore ds i) (pos 0)) x)
     (sym (after-within a (take (suc i) ds) n b (omega (arith, length-take (suc i) ds)))) (total-at-each d h a e ds ts f k i l g)
@@ -121,7 +129,8 @@ module _ (f : ℤ → ℤ) where
   abbrev Carried : List Sighting → List ℤ → ℕ → Type 0
   Carried ds ts i = (fitBefore ds i < length ts) × (getD ds i none .reading ≡ f (getD ts (fitBefore ds i) (pos 0)))
 
-  carried-by : (s : Sighting) (ds : List Sighting) (b : Bool) → s .fit ≡ b → (ts : List ℤ) → cond (s .fit) (s .reading ∷ fitReadings ds) (fitReadings ds) ≡ map f ts
+  carried-by : (s : Sighting) (ds : List Sighting) (b : Bool) → s .fit ≡ b
+      → (ts : List ℤ) → cond (s .fit) (s .reading ∷ fitReadings ds) (fitReadings ds) ≡ map f ts
       → ((us : List ℤ) → fitReadings ds ≡ map f us → (i : ℕ) → i < length ds → getD ds i none .fit ≡ true → Carried ds us i)
       → (i : ℕ) → i < length (s ∷ ds) → getD (s ∷ ds) i none .fit ≡ true → Carried (s ∷ ds) ts i
   unfolding fitBefore fitReadings
@@ -152,7 +161,8 @@ place-by s ds true e r zero h = (0, omega arith, e, refl)
 place-by s ds true e r (suc k) h = let p = r k (omega arith) in (suc (p .0), omega (arith, p .1), p .2, rw e (ap suc (p .3)))
 place-by s ds false e r k h = let p = r k h in (suc (p .0), omega (arith, p .1), p .2, rw e (p .3))
 
-pub place-of : (ds : List Sighting) (k : ℕ) → k < length (fitReadings ds) → (i : ℕ) × (i < length ds) × (getD ds i none .fit ≡ true) × (fitBefore ds i ≡ k)
+pub place-of : (ds : List Sighting) (k : ℕ) → k < length (fitReadings ds)
+    → (i : ℕ) × (i < length ds) × (getD ds i none .fit ≡ true) × (fitBefore ds i ≡ k)
 unfolding fitReadings
 place-of [] k h = absurd (omega arith)
 place-of (s ∷ ds) k h = place-by s ds (s .fit) refl (λ j l. place-of ds j l) k h

@@ -2,12 +2,15 @@
 use Prim.Native.Nat.{ℕ, zero, suc, _^_}
 use mathlib.Core.Bool.{Bool, true, false, cond}
 use mathlib.Core.List.{List, [], _∷_}
-use mathlib.Core.Path.{_≡_}
-use lib.Dec.{eqb, leb}
+use lib.Dec.{leb}
 use lib.IntN.{ℤ, pos, negsuc, natAbs}
 use lib.ListN.{getD}
 use lib.Ieee.{Float, fin, binary64, round}
-use Rattle.setup.specs.declared.Setup.{Setup}
+use Rattle.setup.specs.Sensor.{unitsIn, shiftsIn}
+use Rattle.setup.specs.declared.Unit as unit
+use Rattle.setup.specs.declared.Unit.{Unit}
+use Rattle.setup.specs.declared.Units.{Units}
+use Rattle.setup.specs.declared.Shifts.{Shifts}
 use Rattle.motion.specs.declared.Values.{Values}
 use Rattle.motion.specs.declared.Values.the-variants.{Instantaneous, Incremental, Average, Integrated}
 use Rattle.motion.specs.declared.GroupValues.{GroupValues}
@@ -16,7 +19,8 @@ abbrev pub negative : ℤ → Bool
 negative (pos n) = false
 negative (negsuc n) = true
 
--- the double nearest to n / 2 ^ k. For an n of at most 2 ^ 53 in size and a k of at most 31 it is n / 2 ^ k (`exact` of proofs/Doubles.antt), and zero is +0.
+-- the double nearest to n / 2 ^ k. For an n of at most 2 ^ 53 in size and a k of at most 31 it is n / 2 ^ k (`exact` of proofs/Doubles.antt),
+-- and zero is +0.
 unfoldable pub quotient : ℤ → ℕ → Float
 quotient n k = round binary64 (negative n) (natAbs n) (2 ^ k)
 
@@ -40,29 +44,39 @@ doublesIn (Incremental x y z) = x ∷ y ∷ z ∷ []
 doublesIn (Average x y z) = x ∷ y ∷ z ∷ []
 doublesIn (Integrated x y z) = x ∷ y ∷ z ∷ []
 
--- three doubles in a unit: 0 instantaneous, 1 incremental, 2 average, 3 integrated
-unfoldable pub valuesIn : ℕ → Float → Float → Float → Values
-valuesIn unit x y z =
-    cond (eqb unit 0) (Instantaneous x y z) (cond (eqb unit 1) (Incremental x y z) (cond (eqb unit 2) (Average x y z) (Integrated x y z)))
-
--- a unit above 3, which no accepted setup has, counts as 0
-unfoldable pub knownUnit : ℕ → ℕ
-knownUnit unit = cond (leb unit 3) unit 0
+-- the values come back as instantaneous, incremental, average or integrated, by the group's unit
+unfoldable pub valuesIn : Unit → Float → Float → Float → Values
+valuesIn unit.the-variants.Instantaneous x y z = Instantaneous x y z
+valuesIn unit.the-variants.Incremental x y z = Incremental x y z
+valuesIn unit.the-variants.Average x y z = Average x y z
+valuesIn unit.the-variants.Integrated x y z = Integrated x y z
 
 -- the values of a group from its unit, its shift and its readings
-unfoldable pub valuesOf : ℕ → ℕ → List ℤ → Values
+unfoldable pub valuesOf : Unit → ℕ → List ℤ → Values
 valuesOf unit shift readings =
-    valuesIn (knownUnit unit) (quotient (getD readings 0 (pos 0)) (knownShift shift)) (quotient (getD readings 1 (pos 0)) (knownShift shift))
-    (quotient (getD readings 2 (pos 0)) (knownShift shift))
+    let double : ℕ → Float = λ axis. quotient (getD readings axis (pos 0)) (knownShift shift) in
+    valuesIn unit (double 0) (double 1) (double 2)
 
--- of the three groups: gyro 0, accelerometer 1, inclinometer 2
-abbrev pub valuesAt : Setup → List (List ℤ) → ℕ → Values
-valuesAt s readings group = valuesOf (getD (s .units) group 0) (getD (s .shifts) group 0) (getD readings group [])
+-- the unit and the shift of a group
+abbrev pub unitIn : Units → ℕ → Unit
+unitIn u group = getD (unitsIn u) group unit.the-variants.Instantaneous
 
-unfoldable pub groupValues : Setup → List (List ℤ) → GroupValues
-groupValues s readings = record { gyro = valuesAt s readings 0; accelerometer = valuesAt s readings 1; inclinometer = valuesAt s readings 2 }
+abbrev pub shiftIn : Shifts → ℕ → ℕ
+shiftIn s group = getD (shiftsIn s) group 0
 
--- one of three by its number, and the values of a group so
+-- the values of the three groups
+abbrev pub valuesAt : Units → Shifts → List (List ℤ) → ℕ → Values
+valuesAt units shifts readings group = valuesOf (unitIn units group) (shiftIn shifts group) (getD readings group [])
+
+unfoldable pub groupValues : Units → Shifts → List (List ℤ) → GroupValues
+groupValues units shifts readings =
+    record {
+      gyro = valuesAt units shifts readings 0;
+      accelerometer = valuesAt units shifts readings 1;
+      inclinometer = valuesAt units shifts readings 2;
+    }
+
+-- one of three by its number: of the groups gyro 0, accelerometer 1, inclinometer 2, of the axes X 0, Y 1, Z 2
 abbrev pub oneOf : {A : Type 0} → A → A → A → ℕ → A
 oneOf a b c zero = a
 oneOf a b c (suc zero) = b
@@ -70,13 +84,3 @@ oneOf a b c (suc (suc n)) = c
 
 abbrev pub valuesFor : GroupValues → ℕ → Values
 valuesFor v group = oneOf (v .gyro) (v .accelerometer) (v .inclinometer) group
-
--- what is promised of a group's values: they come back under 01's number of the group's unit, with a double for each reading
-pub record Told (s : Setup) (readings : List (List ℤ)) (group : ℕ) (v : Values) : Type 0 where
-  pub unit : unitOf v ≡ knownUnit (getD (s .units) group 0)
-  pub doubles :
-      doublesIn v ≡
-      quotient (getD (getD readings group []) 0 (pos 0)) (knownShift (getD (s .shifts) group 0)) ∷
-      quotient (getD (getD readings group []) 1 (pos 0)) (knownShift (getD (s .shifts) group 0)) ∷
-      quotient (getD (getD readings group []) 2 (pos 0)) (knownShift (getD (s .shifts) group 0)) ∷
-      []

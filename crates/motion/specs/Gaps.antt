@@ -1,12 +1,13 @@
--- 01, Status, doubles, gaps: what lies between two datagrams. Internal samples and datagrams are two counts; the missed rule alone turns one into the other.
+-- 01, Status, doubles, gaps: what lies between two datagrams. Internal samples and datagrams are two counts; the missed rule alone turns
+-- one into the other.
 use Prim.Native.Nat.{ℕ, _-_, _/_, _%_}
 use mathlib.Core.Bool.{Bool, _||_, cond}
 use mathlib.Core.List.{List, [], _∷_}
 use lib.Dec.{eqb}
 use lib.IntN.{pos, _-ℤ_}
 use Rattle.integers.specs.Rounding.{residue}
-use Rattle.setup.specs.Setup.{rateListed}
-use Rattle.setup.specs.declared.Setup.{Setup}
+use Rattle.setup.specs.Setup.{hertz}
+use Rattle.setup.specs.declared.Rate.{Rate}
 use Rattle.motion.specs.declared.Samples.{Samples}
 use Rattle.motion.specs.declared.Datagrams.{Datagrams}
 use Rattle.motion.specs.declared.Gap.{Gap}
@@ -22,10 +23,6 @@ datagrams n = record { 0 = n }
 abbrev pub missedIn : Gap → List ℕ
 missedIn (Missed n) = n .0 ∷ []
 missedIn OffStep = []
-
--- a rate that isn't listed, which no accepted setup has, counts as 0, external trigger
-unfoldable pub knownRate : ℕ → ℕ
-knownRate rate = cond (rateListed rate) rate 0
 
 -- s: the internal samples, 2,000 a second, from one datagram to the next
 abbrev pub stepAt : ℕ → Samples
@@ -43,5 +40,5 @@ missedAfter s d = cond (eqb (d .0 % s .0) 0) (Missed (datagrams (d .0 / s .0 - 1
 unfoldable pub gapAt : ℕ → Bool → ℕ → ℕ → Gap
 gapAt rate first previous counter = cond (first || eqb rate 0) (Missed (datagrams 0)) (missedAfter (stepAt rate) (elapsed previous counter))
 
-abbrev pub gapBetween : Setup → Bool → ℕ → ℕ → Gap
-gapBetween s first previous counter = gapAt (knownRate (s .rate)) first previous counter
+abbrev pub gapBetween : Rate → Bool → ℕ → ℕ → Gap
+gapBetween rate first previous counter = gapAt (hertz rate) first previous counter

@@ -10,10 +10,14 @@ use lib.ListN.{length, take, getD}
 use Rattle.integers.specs.Rounding.{floor}
 use Rattle.integers.specs.Folding.{fold}
 use Rattle.integers.specs.Ranges.{within}
-use Rattle.setup.specs.Layout.{groupsCarried}
+use Rattle.setup.specs.Layout.{groupsOf, groupsCarried}
+use Rattle.setup.specs.Setup.{unitNumber}
 use Rattle.setup.specs.declared.Setup.{Setup}
+use Rattle.setup.specs.declared.Row.{Row}
+use Rattle.setup.specs.declared.Units.{Units}
+use Rattle.setup.specs.declared.Shifts.{Shifts}
 use Rattle.motion.specs.Status.{fit}
-use Rattle.motion.specs.Doubles.{quotient, plusZero, knownShift, oneOf}
+use Rattle.motion.specs.Doubles.{quotient, plusZero, knownShift, oneOf, unitIn, shiftIn}
 use Rattle.motion.specs.declared.Axis.{Axis}
 use Rattle.motion.specs.declared.GroupAxes.{GroupAxes}
 use Rattle.motion.specs.declared.Axes.{Axes}
@@ -42,11 +46,25 @@ fitStep a r = record { begun = true; last = r; total = cond (a .begun) (a .total
 unfoldable pub axisStep : Axis → Sighting → Axis
 axisStep a d = cond (d .fit) (fitStep a (d .reading)) a
 
--- the same where the axis keeps a total; else it stays as it is, and so does one whose total is beyond 2 ^ 53 in size, which no session has
+-- the greatest size of a total; a greater one, which no session has, is neither moved on nor told as a double
+abbrev pub greatestTotal : ℕ
+greatestTotal = 2 ^ 53
+
+-- a datagram on an axis that keeps a total; one that keeps none stays as it is
 unfoldable pub keptStep : Bool → Axis → Sighting → Axis
-keptStep kept a d = cond (kept && within (2 ^ 53) (a .total)) (axisStep a d) a
+keptStep kept a d = cond (kept && within greatestTotal (a .total)) (axisStep a d) a
 
 -- ---- the nine axes; groups are gyro 0, accelerometer 1, inclinometer 2, and axes X 0, Y 1, Z 2
+
+-- an axis to which no fit datagram came, a group of them, and all nine
+abbrev pub noAxis : Axis
+noAxis = record { begun = false; last = pos 0; total = pos 0 }
+
+abbrev pub noGroup : GroupAxes
+noGroup = record { x = noAxis; y = noAxis; z = noAxis }
+
+abbrev pub noAxes : Axes
+noAxes = record { gyro = noGroup; accelerometer = noGroup; inclinometer = noGroup }
 
 -- a total is kept for each axis of a carried group set to integrated
 abbrev pub keeps : Setup → ℕ → Bool
@@ -54,6 +72,13 @@ keeps s group = getD (groupsCarried (s .identifier)) group false && eqb (getD (s
 
 unfoldable pub groupsKept : Setup → List Bool
 groupsKept s = keeps s 0 ∷ keeps s 1 ∷ keeps s 2 ∷ []
+
+-- the same by what a datagram carries and the units of the groups
+abbrev pub keptIn : Row → Units → ℕ → Bool
+keptIn row units group = getD (groupsOf row) group false && eqb (unitNumber (unitIn units group)) 3
+
+unfoldable pub keptBy : Row → Units → List Bool
+keptBy row units = keptIn row units 0 ∷ keptIn row units 1 ∷ keptIn row units 2 ∷ []
 
 -- what an axis of a group sees of the group's status byte and readings
 abbrev pub seenIn : ℕ → List ℤ → ℕ → Sighting
@@ -70,12 +95,13 @@ groupStep kept g readings status =
       z = keptStep kept (g .z) (seenIn status readings 2);
     }
 
-unfoldable pub stepped : Setup → Axes → List (List ℤ) → List ℕ → Axes
-stepped s a readings statuses =
+-- a datagram on the nine axes; kept: which groups keep totals
+unfoldable pub stepped : List Bool → Axes → List (List ℤ) → List ℕ → Axes
+stepped kept a readings statuses =
     record {
-      gyro = groupStep (keeps s 0) (a .gyro) (getD readings 0 []) (getD statuses 0 0);
-      accelerometer = groupStep (keeps s 1) (a .accelerometer) (getD readings 1 []) (getD statuses 1 0);
-      inclinometer = groupStep (keeps s 2) (a .inclinometer) (getD readings 2 []) (getD statuses 2 0);
+      gyro = groupStep (getD kept 0 false) (a .gyro) (getD readings 0 []) (getD statuses 0 0);
+      accelerometer = groupStep (getD kept 1 false) (a .accelerometer) (getD readings 1 []) (getD statuses 1 0);
+      inclinometer = groupStep (getD kept 2 false) (a .inclinometer) (getD readings 2 []) (getD statuses 2 0);
     }
 
 -- the axis of a group
@@ -96,17 +122,17 @@ groupTotals g = record { x = totalOf (g .x); y = totalOf (g .y); z = totalOf (g 
 unfoldable pub totalsOf : Axes → Totals
 totalsOf a = record { gyro = groupTotals (a .gyro); accelerometer = groupTotals (a .accelerometer); inclinometer = groupTotals (a .inclinometer) }
 
--- total / 2 ^ shift; +0 for a total beyond 2 ^ 53 in size
+-- total / 2 ^ shift; +0 for a total beyond the greatest
 unfoldable pub totalDouble : Axis → ℕ → Float
-totalDouble a shift = cond (within (2 ^ 53) (a .total)) (quotient (a .total) (knownShift shift)) plusZero
+totalDouble a shift = cond (within greatestTotal (a .total)) (quotient (a .total) (knownShift shift)) plusZero
 
 unfoldable pub groupDoubles : GroupAxes → ℕ → GroupDoubles
 groupDoubles g shift = record { x = totalDouble (g .x) shift; y = totalDouble (g .y) shift; z = totalDouble (g .z) shift }
 
-abbrev pub doubleOf : Setup → Axes → ℕ → ℕ → Float
-doubleOf s a group axis = totalDouble (axisAt a group axis) (getD (s .shifts) group 0)
+abbrev pub doubleOf : Shifts → Axes → ℕ → ℕ → Float
+doubleOf s a group axis = totalDouble (axisAt a group axis) (shiftIn s group)
 
-unfoldable pub totalDoubles : Setup → Axes → TotalDoubles
+unfoldable pub totalDoubles : Shifts → Axes → TotalDoubles
 totalDoubles s a =
     record {
       «gyro_x» = doubleOf s a 0 0;
@@ -165,7 +191,8 @@ unfoldable pub Close : ℕ → List ℤ → Type 0
 Close d [] = Unit {0}
 Close d (t ∷ ts) = CloseFrom d t ts
 
--- the axis stands for the change from the true value t₀ to t: its total is the difference of the two rounded down, and less than one step from the change
+-- the axis stands for the change from the true value t₀ to t: its total is the difference of the two rounded down, and less than one step
+-- from the change
 pub record Stands (d : ℕ) (t₀ t : ℤ) (a : Axis) : Type 0 where
   pub begun : a .begun ≡ true
   pub exact : a .total ≡ floor t d -ℤ floor t₀ d

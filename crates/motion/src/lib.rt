@@ -1,13 +1,23 @@
 // What the fields of a datagram mean: status and fitness, doubles, gaps and totals (01, Status, doubles, gaps; Totals).
 ghost use mathlib.Core.Path.{_≡_};
 ghost use Prim.Native.Nat.{_<_, _≤_, _^_};
+ghost use lib.Dec.{eqb};
 ghost use lib.Ieee.{binary64, ofInt};
 ghost use lib.IntN.{pos, natAbs, _+ℤ_};
+ghost use Rattle.setup.specs.Setup.{unitNumber};
 ghost use Rattle.motion.specs.Status.{fitAxes, flagged};
-ghost use Rattle.motion.specs.Doubles.{quotient, knownShift, valuesIn, knownUnit, valuesOf, groupValues};
-ghost use Rattle.motion.specs.Gaps.{knownRate, elapsed, missedAfter, gapBetween};
-ghost use Rattle.motion.specs.Totals.{difference, fitStep, keptStep, groupsKept, groupStep, stepped, totalOf, groupTotals, totalsOf, totalDouble, groupDoubles, totalDoubles};
-use setup::Setup;
+ghost use Rattle.motion.specs.Doubles.{quotient, knownShift, valuesIn, valuesOf, groupValues};
+ghost use Rattle.motion.specs.Gaps.{elapsed, missedAfter, gapBetween};
+ghost use Rattle.motion.specs.Totals.{difference, fitStep, keptStep, noAxes, keptBy, groupStep, stepped};
+ghost use Rattle.motion.specs.Totals.{totalOf, groupTotals, totalsOf, totalDouble, groupDoubles, totalDoubles};
+use setup::Rate;
+use setup::Row;
+use setup::Shifts;
+use setup::Unit;
+use setup::Units;
+
+// The greatest size of a total, 2^53: up to it every total is a double.
+const GREATEST_TOTAL: u64 = 9007199254740992;
 
 // A count of internal samples, 2,000 a second.
 pub struct Samples(pub u32);
@@ -147,19 +157,19 @@ fn steps_double(steps: i64, shift: u32) -> f64
 }
 
 // Three doubles in a unit.
-fn values_in(unit: u16, x: f64, y: f64, z: f64) -> Values
-    ensures { λ r. ⌜ r ≡ valuesIn (knownUnit unit) x y z ⌝ }
+fn values_in(unit: Unit, x: f64, y: f64, z: f64) -> Values
+    ensures { λ r. ⌜ r ≡ valuesIn unit x y z ⌝ }
 {
     match unit {
-        1 => Values::Incremental(x, y, z),
-        2 => Values::Average(x, y, z),
-        3 => Values::Integrated(x, y, z),
-        _ => Values::Instantaneous(x, y, z),
+        Unit::Instantaneous => Values::Instantaneous(x, y, z),
+        Unit::Incremental => Values::Incremental(x, y, z),
+        Unit::Average => Values::Average(x, y, z),
+        Unit::Integrated => Values::Integrated(x, y, z),
     }
 }
 
 // The values of one group.
-fn values_of(unit: u16, shift: u16, readings: [i32; 3]) -> Values
+fn values_of(unit: Unit, shift: u16, readings: [i32; 3]) -> Values
     ensures { λ r. ⌜ r ≡ valuesOf unit shift readings ⌝ }
 {
     let k = known_shift(shift);
@@ -170,27 +180,16 @@ fn values_of(unit: u16, shift: u16, readings: [i32; 3]) -> Values
 }
 
 // The values of the three groups, each double exactly reading / 2^shift (01, Status, doubles, gaps).
-pub fn group_values(setup: Setup, readings: [[i32; 3]; 3]) -> GroupValues
-    ensures { λ r. ⌜ r ≡ groupValues setup readings ⌝ }
+pub fn group_values(units: Units, shifts: Shifts, readings: [[i32; 3]; 3]) -> GroupValues
+    ensures { λ r. ⌜ r ≡ groupValues units shifts readings ⌝ }
 {
-    let units = setup.units;
-    let shifts = setup.shifts;
+    let gyro = units.gyro;
+    let accelerometer = units.accelerometer;
+    let inclinometer = units.inclinometer;
     GroupValues {
-        gyro: values_of(units[0], shifts[0], readings[0]),
-        accelerometer: values_of(units[1], shifts[1], readings[1]),
-        inclinometer: values_of(units[2], shifts[2], readings[2]),
-    }
-}
-
-// A rate, 0 for one that isn't listed.
-fn known_rate(rate: u16) -> u16
-    ensures { λ r. ⌜ r ≡ knownRate rate ⌝ }
-{
-    let slow = (rate == 0) | (rate == 125) | (rate == 250);
-    if slow | (rate == 500) | (rate == 1000) | (rate == 2000) {
-        rate
-    } else {
-        0
+        gyro: values_of(gyro, shifts.gyro, readings[0]),
+        accelerometer: values_of(accelerometer, shifts.accelerometer, readings[1]),
+        inclinometer: values_of(inclinometer, shifts.inclinometer, readings[2]),
     }
 }
 
@@ -219,27 +218,68 @@ fn missed(step: Samples, gone: Samples) -> Gap
 }
 
 // What lies between the datagram before and one with this counter; `first`: whether it counts as a first one (01, Status, doubles, gaps).
-pub fn gap_between(setup: Setup, first: bool, previous: u8, counter: u8) -> Gap
-    ensures { λ r. ⌜ r ≡ gapBetween setup first previous counter ⌝ }
+pub fn gap_between(rate: Rate, first: bool, previous: u8, counter: u8) -> Gap
+    ensures { λ r. ⌜ r ≡ gapBetween rate first previous counter ⌝ }
 {
-    let rate = known_rate(setup.rate);
-    if first | (rate == 0) {
+    if first {
         return Gap::Missed(Datagrams(0));
     }
-    missed(Samples(2000 / rate as u32), elapsed(previous, counter))
+    let gone = elapsed(previous, counter);
+    match rate {
+        Rate::ExternalTrigger => Gap::Missed(Datagrams(0)),
+        Rate::Hertz125 => missed(Samples(16), gone),
+        Rate::Hertz250 => missed(Samples(8), gone),
+        Rate::Hertz500 => missed(Samples(4), gone),
+        Rate::Hertz1000 => missed(Samples(2), gone),
+        Rate::Hertz2000 => missed(Samples(1), gone),
+    }
+}
+
+// Whether a unit is integrated.
+fn is_integrated(unit: Unit) -> bool
+    ensures { λ r. ⌜ r ≡ eqb (unitNumber unit) 3 ⌝ }
+{
+    match unit {
+        Unit::Instantaneous => false,
+        Unit::Incremental => false,
+        Unit::Average => false,
+        Unit::Integrated => true,
+    }
 }
 
 // Which groups keep totals: those that are carried and set to integrated (01, Totals).
-pub fn kept_groups(setup: Setup) -> [bool; 3]
-    ensures { λ r. ⌜ r ≡ groupsKept setup ⌝ }
+pub fn kept_groups(row: Row, units: Units) -> [bool; 3]
+    ensures { λ r. ⌜ r ≡ keptBy row units ⌝ }
 {
-    let units = setup.units;
-    let carried = setup::groups_carried(setup.identifier);
+    let gyro = units.gyro;
+    let accelerometer = units.accelerometer;
+    let inclinometer = units.inclinometer;
     [
-        carried[0] & (units[0] == 3),
-        carried[1] & (units[1] == 3),
-        carried[2] & (units[2] == 3),
+        is_integrated(gyro),
+        row.acceleration & is_integrated(accelerometer),
+        row.inclination & is_integrated(inclinometer),
     ]
+}
+
+// Nine axes to which no fit datagram came.
+pub fn no_axes() -> Axes
+    ensures { λ r. ⌜ r ≡ noAxes ⌝ }
+{
+    let axis = Axis {
+        begun: false,
+        last: 0,
+        total: 0,
+    };
+    let group = GroupAxes {
+        x: axis,
+        y: axis,
+        z: axis,
+    };
+    Axes {
+        gyro: group,
+        accelerometer: group,
+        inclinometer: group,
+    }
 }
 
 // x + 2^31, which is not negative.
@@ -250,14 +290,14 @@ fn lifted(x: i32) -> u64
 }
 
 // The difference of two readings modulo 2^24, in -8388608 .. 8388607.
-fn difference(new: i32, old: i32) -> i64
+fn difference(new: i32, old: i32) -> i32
     ensures { λ r. ⌜ r ≡ difference new old ⌝ }
 {
     let d = std::num::wrapping_sub_u64(lifted(new), lifted(old)) % 16777216;
     if d < 8388608 {
-        d as i64
+        d as i32
     } else {
-        (d as i64) - 16777216
+        (d as i32) - 16777216
     }
 }
 
@@ -270,7 +310,7 @@ fn fit_step(axis: Axis, reading: i32) -> Axis
     if begun {
         let last = axis.last;
         let total = axis.total;
-        let sum = total + difference(reading, last);
+        let sum = total + (difference(reading, last) as i64);
         Axis {
             begun: true,
             last: reading,
@@ -290,7 +330,7 @@ fn kept_step(kept: bool, axis: Axis, fit: bool, reading: i32) -> Axis
     ensures { λ r. ⌜ r ≡ keptStep kept axis (record { fit = fit; reading = reading }) ⌝ }
 {
     let total = axis.total;
-    let counts = kept & integers::is_within(total, 9007199254740992);
+    let counts = kept & integers::is_within(total, GREATEST_TOTAL);
     if !(counts & fit) {
         return axis;
     }
@@ -312,11 +352,10 @@ fn group_step(kept: bool, axes: GroupAxes, readings: [i32; 3], status: u8) -> Gr
     }
 }
 
-// One datagram on all axes (01, Totals).
-pub fn step(setup: Setup, axes: Axes, readings: [[i32; 3]; 3], statuses: [u8; 3]) -> Axes
-    ensures { λ r. ⌜ r ≡ stepped setup axes readings statuses ⌝ }
+// One datagram on all axes; `kept`: which groups keep totals (01, Totals).
+pub fn step(kept: [bool; 3], axes: Axes, readings: [[i32; 3]; 3], statuses: [u8; 3]) -> Axes
+    ensures { λ r. ⌜ r ≡ stepped kept axes readings statuses ⌝ }
 {
-    let kept = kept_groups(setup);
     let gyro = axes.gyro;
     let accelerometer = axes.accelerometer;
     let inclinometer = axes.inclinometer;
@@ -371,7 +410,7 @@ fn total_double(axis: Axis, shift: u16) -> f64
 {
     let total = axis.total;
     let k = known_shift(shift);
-    if integers::is_within(total, 9007199254740992) {
+    if integers::is_within(total, GREATEST_TOTAL) {
         return steps_double(total, k);
     }
     0.0
@@ -392,16 +431,15 @@ fn group_doubles(axes: GroupAxes, shift: u16) -> GroupDoubles
 }
 
 // The totals of all axes as doubles (01, Totals).
-pub fn total_doubles(setup: Setup, axes: Axes) -> TotalDoubles
-    ensures { λ r. ⌜ r ≡ totalDoubles setup axes ⌝ }
+pub fn total_doubles(shifts: Shifts, axes: Axes) -> TotalDoubles
+    ensures { λ r. ⌜ r ≡ totalDoubles shifts axes ⌝ }
 {
-    let shifts = setup.shifts;
     let gyro = axes.gyro;
     let accelerometer = axes.accelerometer;
     let inclinometer = axes.inclinometer;
-    let g = group_doubles(gyro, shifts[0]);
-    let a = group_doubles(accelerometer, shifts[1]);
-    let i = group_doubles(inclinometer, shifts[2]);
+    let g = group_doubles(gyro, shifts.gyro);
+    let a = group_doubles(accelerometer, shifts.accelerometer);
+    let i = group_doubles(inclinometer, shifts.inclinometer);
     TotalDoubles {
         gyro_x: g.x,
         gyro_y: g.y,

@@ -14,17 +14,14 @@ use Rattle.setup.specs.declared.Ruling.the-variants.{Refused}
 use Rattle.setup.proofs.Refusals.{accepted-length}
 use Rattle.wire.specs.Fields.{fieldsOf, besidesReadings}
 use Rattle.motion.specs.Status.{flagged}
-use Rattle.scan.specs.Scan.{First, ends, finds, first}
-use Rattle.scan.specs.Front.{heldRule}
+use Rattle.scan.specs.Scan.{First, ends, finds}
 use Rattle.scan.specs.Calls.{State, Fed, feed, refusing}
 use Rattle.scan.specs.Calls.Answer.{refused}
 use Rattle.scan.specs.Carry.{carrying}
-use Rattle.scan.proofs.AmongLaws.{follows-stable}
-use Rattle.scan.proofs.CallsLaws.{atOnce, feed-unsound, feed-over, feed-past, feed-at-once}
-use Rattle.scan.proofs.FrontLaws.{held-fewer}
-use Rattle.search.specs.Search.{verdictOf, isDatagram}
-use Rattle.search.proofs.Datagrams.{shaped, lawful}
-use Rattle.session.specs.Session.{limits, heldBytes, isSound, pieceRuling}
+use Rattle.scan.proofs.CallsLaws.{feed-unsound, feed-over, feed-past}
+use Rattle.search.specs.Search.{limitsOf, rulesOf, verdictOf}
+use Rattle.search.proofs.Datagrams.{lawful}
+use Rattle.session.specs.Session.{heldBytes, isSound, pieceRuling}
 use Rattle.session.specs.declared.Session.{Session}
 use Rattle.session.proofs.Soundness.{Facts, sound-facts}
 use Rattle.receiver.specs.Feed.{consumer, stateOf, replyBy, replyOf, refusal, feedBy, feedOf}
@@ -71,10 +68,10 @@ module _ (s : Session) (f : Facts s) where
   pub count-less : s .count < lengthOf (s .setup)
   count-less =
       let u = s .setup in
-      omega (arith, count-held s f, held-fewer (u .identifier) (lengthOf u) (isDatagram u) (shaped u (f .accepted)) (heldBytes s) (f .held))
+      omega (arith, count-held s f, lawful u (f .accepted) .holds .shorter (heldBytes s) (f .held))
 
   -- room for as many bytes again as a session may be fed
-  pub room-of : (n : ℕ) → n ≤ limits .session → Room s n
+  pub room-of : (n : ℕ) → n ≤ limitsOf (s .setup) .session → Room s n
   room-of n l =
       let h : 1 ≤ lengthOf (s .setup) = omega (arith, accepted-length (s .setup) (f .accepted) .0) in
       record {
@@ -88,31 +85,31 @@ module _ (s : Session) (f : Facts s) where
 module _ (s : Session) (p : List ℕ) where
   -- the scan's call, refused by the same numbers
   pub fed-scan :
-      feedOf s p ≡ replyOf s (carrying (consumer (s .setup)) (stateOf s) (feed (verdictOf (s .setup)) limits (isSound s) (stateOf s .scan) p))
+      feedOf s p ≡ replyOf s (carrying (consumer (s .setup)) (stateOf s) (feed (rulesOf (s .setup)) (isSound s) (stateOf s .scan) p))
   unfolding feedOf pieceRuling feed
-  fed-scan = by (isSound s) refl (decLe (length p) (limits .piece)) (decLe (s .fed + length p) (limits .session))
+  fed-scan = by (isSound s) refl (decLe (length p) (limitsOf (s .setup) .piece)) (decLe (s .fed + length p) (limitsOf (s .setup) .session))
     where
       by :
-          (ok : Bool) → isSound s ≡ ok → Dec (length p ≤ limits .piece) → Dec (s .fed + length p ≤ limits .session)
+          (ok : Bool) → isSound s ≡ ok → Dec (length p ≤ limitsOf (s .setup) .piece) → Dec (s .fed + length p ≤ limitsOf (s .setup) .session)
           → feedBy (pieceRuling s (length p)) s p
-          ≡ replyOf s (carrying (consumer (s .setup)) (stateOf s) (feed (verdictOf (s .setup)) limits (isSound s) (stateOf s .scan) p))
+          ≡ replyOf s (carrying (consumer (s .setup)) (stateOf s) (feed (rulesOf (s .setup)) (isSound s) (stateOf s .scan) p))
       by false e few most = rw e
-      by true e (no n) most = rw (e, lt-ltb (limits .piece) (length p) (omega arith), lt-leb (length p) (limits .piece) (omega arith))
+      by true e (no n) most = rw (e, lt-ltb (limitsOf (s .setup) .piece) (length p) (omega arith), lt-leb (length p) (limitsOf (s .setup) .piece) (omega arith))
       by true e (yes h) (no n) =
           rw (
             e,
-            le-ltb (limits .piece) (length p) h,
-            le-leb (length p) (limits .piece) h,
-            lt-ltb (limits .session) (s .fed + length p) (omega arith),
-            lt-leb (s .fed + length p) (limits .session) (omega arith),
+            le-ltb (limitsOf (s .setup) .piece) (length p) h,
+            le-leb (length p) (limitsOf (s .setup) .piece) h,
+            lt-ltb (limitsOf (s .setup) .session) (s .fed + length p) (omega arith),
+            lt-leb (s .fed + length p) (limitsOf (s .setup) .session) (omega arith),
           )
       by true e (yes h) (yes k) =
           rw (
             e,
-            le-ltb (limits .piece) (length p) h,
-            le-leb (length p) (limits .piece) h,
-            le-ltb (limits .session) (s .fed + length p) k,
-            le-leb (s .fed + length p) (limits .session) k,
+            le-ltb (limitsOf (s .setup) .piece) (length p) h,
+            le-leb (length p) (limitsOf (s .setup) .piece) h,
+            le-ltb (limitsOf (s .setup) .session) (s .fed + length p) k,
+            le-leb (s .fed + length p) (limitsOf (s .setup) .session) k,
           )
 
   pub fed-refused : {n : ℕ} → pieceRuling s (length p) ≡ Refused n → feedOf s p ≡ refusal s n
@@ -120,38 +117,20 @@ module _ (s : Session) (p : List ℕ) where
   fed-refused e = ap (λ (r : Ruling). feedBy r s p) e
 
   pub fed-by :
-      (ok : Bool) (c : Fed State (List ℕ)) → isSound s ≡ ok → feed (verdictOf (s .setup)) limits ok (stateOf s .scan) p ≡ c
+      (ok : Bool) (c : Fed State (List ℕ)) → isSound s ≡ ok → feed (rulesOf (s .setup)) ok (stateOf s .scan) p ≡ c
       → feedOf s p ≡ replyOf s (carrying (consumer (s .setup)) (stateOf s) c)
   fed-by ok c e q =
       fed-scan
       ∙ ap (λ (c : Fed State (List ℕ)). replyOf s (carrying (consumer (s .setup)) (stateOf s) c))
-      (ap (λ (b : Bool). feed (verdictOf (s .setup)) limits b (stateOf s .scan) p) e ∙ q)
+      (ap (λ (b : Bool). feed (rulesOf (s .setup)) b (stateOf s .scan) p) e ∙ q)
 
   pub fed-unsound : isSound s ≡ false → feedOf s p ≡ replyBy s (refused 10) 0 (stateOf s)
-  fed-unsound e = fed-by false (refusing 10 (stateOf s .scan)) e (feed-unsound (verdictOf (s .setup)) limits (stateOf s .scan) p)
+  fed-unsound e = fed-by false (refusing 10 (stateOf s .scan)) e (feed-unsound (rulesOf (s .setup)) (stateOf s .scan) p)
 
-  pub fed-over : isSound s ≡ true → 4096 < length p → feedOf s p ≡ replyBy s (refused 11) 0 (stateOf s)
-  fed-over e h = fed-by true (refusing 11 (stateOf s .scan)) e (feed-over (verdictOf (s .setup)) limits (stateOf s .scan) p h)
+  pub fed-over : isSound s ≡ true → limitsOf (s .setup) .piece < length p → feedOf s p ≡ replyBy s (refused 11) 0 (stateOf s)
+  fed-over e h = fed-by true (refusing 11 (stateOf s .scan)) e (feed-over (rulesOf (s .setup)) (stateOf s .scan) p h)
 
   pub fed-past :
-      isSound s ≡ true → length p ≤ 4096 → 2 ^ 34 < s .fed + length p → feedOf s p ≡ replyBy s (refused 12) 0 (stateOf s)
-  fed-past e h k = fed-by true (refusing 12 (stateOf s .scan)) e (feed-past (verdictOf (s .setup)) limits (stateOf s .scan) p h k)
-
-  turn-of : (f : First) → replyOf s (carrying (consumer (s .setup)) (stateOf s) (atOnce (stateOf s .scan) p f)) ≡ replyAtOnce s p f
-  unfolding replyAfter
-  turn-of (ends n h) = refl
-  turn-of (finds n d r) = refl
-
-  -- not refused, it is the scan of the bytes held and the piece
-  pub fed-at-once :
-      isSound s ≡ true → length p ≤ 4096 → s .fed + length p ≤ 2 ^ 34
-      → feedOf s p ≡ replyAtOnce s p (first (verdictOf (s .setup)) (heldBytes s ++ p))
-  fed-at-once e h k =
-      let u = s .setup in
-      let f = sound-facts s e in
-      let w = lawful u (f .accepted) in
-      let v = first (verdictOf u) (heldBytes s ++ p) in
-      fed-by true (atOnce (stateOf s .scan) p v) e
-      (feed-at-once (verdictOf u) (follows-stable (verdictOf u) (isDatagram u) (w .follows)) (w .prompt) (heldRule (u .identifier) (lengthOf u)) (w .holds)
-      limits (stateOf s .scan) p (facts-safe s f .scan) h k)
-      ∙ turn-of v
+      isSound s ≡ true → length p ≤ limitsOf (s .setup) .piece → limitsOf (s .setup) .session < s .fed + length p
+      → feedOf s p ≡ replyBy s (refused 12) 0 (stateOf s)
+  fed-past e h k = fed-by true (refusing 12 (stateOf s .scan)) e (feed-past (rulesOf (s .setup)) (stateOf s .scan) p h k)

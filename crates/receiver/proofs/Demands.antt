@@ -4,7 +4,6 @@ use Prim.Native.Nat.{ℕ, suc, _+_, _*_, _^_, _≤_, _<_}
 use mathlib.Core.Path.{_≡_, refl, sym, ap, _∙_, subst}
 use mathlib.Core.Bool.{Bool, true, cond}
 use mathlib.Core.List.{List, [], _∷_}
-use native.Mathlib.Nat.{mul-le-mul-right}
 use native.Mathlib.Omega.{arith}
 use lib.Ieee.{Float}
 use lib.Ieee.Exact.{HasValue}
@@ -15,7 +14,6 @@ use Rattle.integers.proofs.Folding.{abs-of-range}
 use Rattle.setup.specs.Setup.{rulingOn, lengthOf}
 use Rattle.setup.specs.declared.Setup.{Setup}
 use Rattle.setup.specs.declared.Ruling.the-variants.{Accepted}
-use Rattle.setup.proofs.Refusals.{accepted-length}
 use Rattle.wire.specs.Fields.{fieldsOf}
 use Rattle.wire.proofs.FieldRanges.{fields-fit}
 use Rattle.motion.specs.Doubles.{negative, plusZero, quotient, knownShift, unitOf, doublesIn, valuesAt, valuesFor}
@@ -30,30 +28,32 @@ use Rattle.motion.proofs.NineAxes.{each, values-at}
 use Rattle.motion.proofs.TrueChange.{kept-at-each, carried-at, place-of}
 use Rattle.scan.specs.Scan.{scan}
 use Rattle.scan.specs.Calls as calls
-use Rattle.scan.specs.Calls.{Report}
-use Rattle.scan.specs.Front.{heldRule}
-use Rattle.scan.specs.Stream.{joined, Among, NoTen}
+use Rattle.scan.specs.Calls.{Report, skip}
+use Rattle.scan.specs.Stream.{joined, Among, Bare, NoTen}
 use Rattle.scan.specs.Carry.{Delivered}
 use Rattle.scan.proofs.AmongLaws.{scan-among, among-scan}
-use Rattle.scan.proofs.CarryLaws.{told-at, length-told, among-each, joined-length}
-use Rattle.scan.proofs.RunLaws.{always-run, always-delivered, run-one, fresh-safe}
+use Rattle.scan.proofs.CarryLaws.{told-at, length-told, among-each, joined-least}
+use Rattle.scan.proofs.RunLaws.{ready, always-run, always-delivered, run-one, fresh-safe}
 use Rattle.scan.proofs.StreamLaws.{every-stream, reports-no-ten}
-use Rattle.search.specs.Search.{isDatagram, verdictOf}
+use Rattle.scan.proofs.OneLength.{joined-length, scan-bare}
+use Rattle.search.specs.Search.{isDatagram, limitsOf, rulesOf, verdictOf}
 use Rattle.search.proofs.ByteLists.{datagram-parts}
-use Rattle.search.proofs.Datagrams.{shaped, lawful}
+use Rattle.search.proofs.Datagrams.{datagram-length, datagram-least, lawful, prompt}
 use Rattle.session.specs.History.{noAxis, noHistory}
 use Rattle.session.specs.declared.History.{History}
-use Rattle.session.specs.Session.{limits, freshOf, opening, isSound, heldBytes}
+use Rattle.session.specs.Session.{freshOf, opening, isSound, heldBytes}
 use Rattle.session.specs.declared.Session.{Session}
 use Rattle.session.specs.declared.Opened.{Opened}
 use Rattle.receiver.specs.declared.Datagram.{Datagram}
 use Rattle.receiver.specs.Feed.{consumer, SessionState, sessionOf, tell, datagramWith, noDatagram, Calls}
+use Rattle.receiver.specs.OneLength.{OneLength}
 use Rattle.receiver.specs.Promises.{streamOf, FedInTurn, answersFor, sighting, sightings, shiftOf, TotalExact, EveryCall, Contained, Exact, Demand2, Stands, Carry, Demand3}
 use Rattle.session.proofs.Opening.{fresh-sound, opened, refused-opening, zeros-unsound}
 use Rattle.receiver.proofs.Refinement.{SafeOf}
-use Rattle.receiver.proofs.HistoryInvariant.{kept}
+use Rattle.receiver.proofs.HistoryInvariant.{history-invariant}
 use Rattle.receiver.proofs.Agreement.{Like, StateRun, run-of-states, run-of-sessions}
-use Rattle.receiver.proofs.EachCall.{not-refused, call-kept, empty-call}
+use Rattle.receiver.proofs.EachCall.{not-refused, call-kept}
+use Rattle.receiver.proofs.OneLength.{undecided-held, handed-last, empty-call}
 use Rattle.receiver.proofs.CallParts.{fed-unsound, fed-over, fed-past}
 use Rattle.session.proofs.Padding.{padded-front}
 use Rattle.receiver.proofs.ContainedAt.{carried-datagrams, contained-at}
@@ -70,7 +70,7 @@ module _ (u : Setup) (ok : rulingOn u ≡ Accepted) where
 
   fresh-state-safe : SafeOf u freshState
   unfolding freshState
-  fresh-state-safe = fresh-safe (consumer u) (verdictOf u) (isDatagram u) (heldRule (u .identifier) (lengthOf u)) limits (lawful u ok) (kept u ok)
+  fresh-state-safe = fresh-safe (consumer u) (rulesOf u) (lawful u ok) (history-invariant u ok)
 
   module _ {ps : List (List ℕ)} {os : List Datagram} {rs : List Report} {t : Session} (c : FedInTurn u ps os rs t) where
     state-run : (t′ : SessionState) × Like u ok t′ t × StateRun u ok freshState ps os rs t′
@@ -79,33 +79,43 @@ module _ (u : Setup) (ok : rulingOn u ≡ Accepted) where
     end-state : SessionState
     end-state = state-run .0
 
-    delivered : Delivered (consumer u) (verdictOf u) (isDatagram u) (heldRule (u .identifier) (lengthOf u)) limits ps os rs end-state
+    delivered : Delivered (consumer u) (rulesOf u) ps os rs end-state
     unfolding freshState end-state
     delivered =
-        always-delivered (consumer u) (verdictOf u) (isDatagram u) (heldRule (u .identifier) (lengthOf u)) limits (lawful u ok) (kept u ok)
-        (state-run .2)
+        always-delivered (consumer u) (rulesOf u) (lawful u ok) (history-invariant u ok) (prompt u ok .undecided) (state-run .2)
+
+    -- none begins among the bytes held at the end: so it is where all datagrams have one length; request 2.7 asks it of the stream
+    bare : Bare (isDatagram u) (end-state .scan .held)
+    bare = subst (Bare (isDatagram u)) (sym (delivered .held)) (scan-bare (rulesOf u) (lawful u ok) (prompt u ok) (streamOf u ps))
 
     is-session : t ≡ sessionOf u end-state
     unfolding end-state
     is-session = state-run .1 .same
 
-    fed-stream : t .fed ≡ length (streamOf ps)
+    fed-stream : t .fed ≡ length (streamOf u ps)
     fed-stream = ap (λ (s : Session). s .fed) is-session ∙ delivered .fed
 
-    answers : (es : List (List ℕ)) → Among (isDatagram u) (streamOf ps) es → os ≡ answersFor u es
-    answers es a = delivered .handed-out ∙ ap (answersFor u) (sym (delivered .only es a))
+    answers : (es : List (List ℕ)) → Among (isDatagram u) (streamOf u ps) es → os ≡ answersFor u es
+    answers es a = delivered .handed-out ∙ ap (answersFor u) (sym (delivered .only bare es a))
 
-    handed-of : (es : List (List ℕ)) → Among (isDatagram u) (streamOf ps) es → end-state .scan .handed ≡ lengthOf u * length es
-    handed-of es a =
-        delivered .handed
-        ∙ ap (λ (ds : List (List ℕ)). length (joined ds)) (sym (delivered .only es a))
-        ∙ joined-length (lengthOf u) (shaped u ok .long) a
+    handed-joined : (es : List (List ℕ)) → Among (isDatagram u) (streamOf u ps) es → end-state .scan .handed ≡ length (joined es)
+    handed-joined es a = delivered .handed ∙ ap (λ (ds : List (List ℕ)). length (joined ds)) (sym (delivered .only bare es a))
 
+    -- a session's bytes over 18 datagrams at most
+    few : (es : List (List ℕ)) → Among (isDatagram u) (streamOf u ps) es → length es ≤ 2 ^ 30
+    few es a = omega (arith, handed-joined es a, delivered .sum, most, joined-least 18 (datagram-least u) a)
+      where
+        most : end-state .scan .fed ≤ limitsOf u .session
+        most = unfold end-state in state-run .1 .safe .scan .most
+
+    -- of one length, the bytes handed out are so many
     bytes-sum : lengthOf u * length os + t .passed + t .count ≡ t .fed
     bytes-sum =
         let es = delivered .datagrams in
+        let a = delivered .among bare in
         let n : length os ≡ length es = ap length (delivered .handed-out) ∙ length-told (consumer u) noHistory es in
-        let h : lengthOf u * length os ≡ end-state .scan .handed = ap (λ (m : ℕ). lengthOf u * m) n ∙ sym (handed-of es (delivered .among)) in
+        let h : lengthOf u * length os ≡ end-state .scan .handed =
+        ap (λ (m : ℕ). lengthOf u * m) n ∙ sym (handed-joined es a ∙ joined-length (lengthOf u) (datagram-length u) a) in
         omega (
           arith,
           h,
@@ -115,23 +125,9 @@ module _ (u : Setup) (ok : rulingOn u ≡ Accepted) where
           ap (λ (s : Session). s .fed) is-session,
         )
 
-    -- 2 ^ 34 / 18 datagrams at most
-    few : (es : List (List ℕ)) → Among (isDatagram u) (streamOf ps) es → length es ≤ 2 ^ 30
-    few es a =
-        omega (
-          arith,
-          handed-of es a,
-          delivered .sum,
-          sound-most,
-          mul-le-mul-right (length es) (accepted-length u ok .0),
-        )
-      where
-        sound-most : end-state .scan .fed ≤ 2 ^ 34
-        sound-most = unfold end-state in state-run .1 .safe .scan .most
-
     -- ---- doubles
 
-    module _ (es : List (List ℕ)) (a : Among (isDatagram u) (streamOf ps) es) (i : ℕ) (l : i < length es) (group axis : ℕ) (h : group < 3) (k : axis < 3) where
+    module _ (es : List (List ℕ)) (a : Among (isDatagram u) (streamOf u ps) es) (i : ℕ) (l : i < length es) (group axis : ℕ) (h : group < 3) (k : axis < 3) where
       -- the answer at the place, and the axis in it
       answer : getD os i noDatagram ≡ getD (answersFor u es) i noDatagram
       answer = ap (λ (l : List Datagram). getD l i noDatagram) (answers es a)
@@ -271,7 +267,7 @@ module _ (u : Setup) (ok : rulingOn u ≡ Accepted) where
   a-run : (ps : List (List ℕ)) → (os : List Datagram) × (rs : List Report) × (t : Session) × FedInTurn u ps os rs t
   unfolding freshState
   a-run ps =
-      let r = always-run (consumer u) (verdictOf u) (isDatagram u) (heldRule (u .identifier) (lengthOf u)) limits (lawful u ok) (kept u ok) ps in
+      let r = always-run (consumer u) (rulesOf u) (lawful u ok) (history-invariant u ok) ps in
       let s = run-of-states u ok (r .3) fresh-state-safe in
       (r .0, r .1, s .0, subst (λ (x : Session). Calls x ps (r .0) (r .1) (s .0)) (sym opens) (s .2))
 
@@ -279,9 +275,9 @@ module _ (u : Setup) (ok : rulingOn u ≡ Accepted) where
       {ps : List (List ℕ)} {os os′ : List Datagram} {rs rs′ : List Report} {t t′ : Session}
       → FedInTurn u ps os rs t → FedInTurn u ps os′ rs′ t′ → (os ≡ os′) × (rs ≡ rs′) × (t ≡ t′)
   unfolding freshState end-state
-  one-run c c′ =
-      let r = run-one (consumer u) (verdictOf u) (isDatagram u) (heldRule (u .identifier) (lengthOf u)) limits (lawful u ok) (kept u ok)
-      (state-run c .2) (state-run c′ .2) fresh-state-safe in
+  one-run {ps} c c′ =
+      let r = run-one (consumer u) (rulesOf u) (lawful u ok) (history-invariant u ok) (prompt u ok .undecided)
+      (state-run c .2) (state-run c′ .2) fresh-state-safe (ready (consumer u) (rulesOf u) (lawful u ok) (history-invariant u ok) freshState ps tt) in
       (r .0, r .1, is-session c ∙ ap (sessionOf u) (r .2) ∙ sym (is-session c′))
 
   pub demand3 : Demand3 u
@@ -292,10 +288,10 @@ module _ (u : Setup) (ok : rulingOn u ≡ Accepted) where
         once = λ c c′. one-run c c′;
         reported = λ c. (
           delivered c .reported,
-          subst NoTen (sym (delivered c .reported)) (reports-no-ten limits 0 _),
+          subst NoTen (sym (delivered c .reported)) (reports-no-ten (limitsOf u) (λ z. omega arith) 0 _),
           fed-stream c,
         );
-        streams = λ v h. let r = every-stream limits (omega arith) v h in (r .0, r .2);
+        streams = λ v h. let r = every-stream (limitsOf u) (omega arith) v h in (r .0, r .2);
         handed-out = λ c es a. answers c es a;
         change = λ c es a group axis h k keep fine some ts C i l fit. change-at c es a i l group axis h k keep fine some ts C fit;
         all-carried = all-carried-at;
@@ -318,7 +314,7 @@ module _ (u : Setup) (ok : rulingOn u ≡ Accepted) where
   -- what was passed over and is held are those of the scan of the stream
   scanned :
       {ps : List (List ℕ)} {os : List Datagram} {rs : List Report} {t : Session} → FedInTurn u ps os rs t
-      → (t .passed ≡ scan (verdictOf u) (streamOf ps) .passed) × (heldBytes t ≡ scan (verdictOf u) (streamOf ps) .held)
+      → (t .passed ≡ scan (verdictOf u) (streamOf u ps) .passed) × (heldBytes t ≡ scan (verdictOf u) (streamOf u ps) .held)
   scanned c =
       let l = end-state c .scan .held in (
         ap (λ (s : Session). s .passed) (is-session c) ∙ delivered c .passed,
@@ -327,30 +323,41 @@ module _ (u : Setup) (ok : rulingOn u ≡ Accepted) where
 
   pub demand2 : Demand2 u
   demand2 =
-      let M = lawful u ok in
+      let bare-end = scan-bare (rulesOf u) (lawful u ok) (prompt u ok) in
       record {
         opened = ap (λ (o : Opened). isSound (o .session)) (opened u ok) ∙ fresh-sound u ok;
         fed = a-run;
         parted =
             λ v. (
               scan (verdictOf u) v .datagrams,
-              scan-among (verdictOf u) (isDatagram u) (M .follows) (M .prompt) v,
-              λ ds a. among-scan (verdictOf u) (isDatagram u) (M .follows) (M .prompt) a,
+              scan-among (rulesOf u) (lawful u ok) v (bare-end v),
+              λ ds a. among-scan (rulesOf u) (lawful u ok) a (bare-end v),
             );
         handed-out = λ c es a. answers c es a;
         contained =
             λ c es a i l. subst (Contained u es i) (sym (ap (λ (os : List Datagram). getD os i noDatagram) (answers c es a))) (contained-at u ok es i l);
         exact = λ c es a i l group axis h k. exact-at c es a i l group axis h k;
         independent = λ group axis h k ds es e i. independent u group axis h k ds es e i;
-        bytes = λ c. (fed-stream c, bytes-sum c, counted c, scanned c .0, scanned c .1);
+        bytes = λ c. (fed-stream c, scanned c .0, scanned c .1);
       }
+
+-- What holds for one length only
+pub one-length : OneLength
+one-length =
+    record {
+      none-taken = λ s e h. empty-call s e h;
+      held-undecided = λ s e. undecided-held s e;
+      last-byte = λ s p e q. handed-last s e p q;
+      counted = λ u ok c. (counted u ok c, bytes-sum u ok c);
+      unfed = λ c. skip c;
+    }
 
 -- Every call, on any session and any piece
 pub every-call : EveryCall
 every-call =
     record {
       kept = λ s e p. call-kept s e p;
-      none-taken = λ s e h. empty-call s e h;
+      one-length = one-length;
       ten = λ s p e. fed-unsound s p e;
       eleven = λ s p e h. fed-over s p e h;
       twelve = λ s p e h k. fed-past s p e h k;

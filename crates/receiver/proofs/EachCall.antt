@@ -1,9 +1,9 @@
--- One call of feed: the session that it returns, a piece of 0 bytes, and what is refused.
+-- One call of feed: the session that it returns, and what is refused.
 -- Assumes nothing.
-use Prim.Native.Nat.{_^_, ℕ, _+_, _*_, _≤_}
+use Prim.Native.Nat.{ℕ, _+_, _*_, _≤_}
 use mathlib.Core.Path.{_≡_, refl, sym, ap, _∙_, subst}
-use mathlib.Core.Bool.{Bool, true}
-use mathlib.Core.List.{List, []}
+use mathlib.Core.Bool.{true}
+use mathlib.Core.List.{List}
 use native.Mathlib.Nat.{add-zero}
 use native.Mathlib.Omega.{arith}
 use lib.ListN.{length}
@@ -11,24 +11,21 @@ use Rattle.setup.specs.Setup.{rulingOn, lengthOf}
 use Rattle.setup.specs.declared.Setup.{Setup}
 use Rattle.setup.specs.declared.Ruling.the-variants.{Accepted}
 use Rattle.scan.specs.Calls as calls
-use Rattle.scan.specs.Calls.{State, Fed}
-use Rattle.scan.specs.Front.{heldRule}
+use Rattle.scan.specs.Calls.{Fed}
 use Rattle.scan.specs.Carry.{carrying, feedSession}
-use Rattle.scan.proofs.AmongLaws.{follows-stable}
-use Rattle.scan.proofs.CallsLaws.{feed-made, no-refusal, empty-piece}
+use Rattle.scan.proofs.CallsLaws.{feed-made, no-refusal}
 use Rattle.scan.proofs.CarryLaws.{feed-fed, reply-refused}
-use Rattle.search.specs.Search.{isDatagram, verdictOf}
-use Rattle.search.proofs.Datagrams.{lawful}
-use Rattle.session.specs.Session.{limits, isSound}
+use Rattle.search.specs.Search.{limitsOf, rulesOf, verdictOf}
+use Rattle.session.specs.Session.{isSound}
 use Rattle.session.specs.declared.Session.{Session}
 use Rattle.receiver.specs.declared.Datagram.{Datagram}
-use Rattle.receiver.specs.declared.Answer.the-variants.{Waiting, Refused}
+use Rattle.receiver.specs.declared.Answer.the-variants.{Refused}
 use Rattle.receiver.specs.declared.Reply.{Reply}
-use Rattle.receiver.specs.Feed.{consumer, noDatagram, SessionState, stateOf, replyBy, replyOf, feedOf}
+use Rattle.receiver.specs.Feed.{consumer, SessionState, stateOf, replyBy, feedOf}
 use Rattle.receiver.specs.Promises.{CallKept}
 use Rattle.session.proofs.Soundness.{sound-facts}
-use Rattle.receiver.proofs.Refinement.{state-safe, session-sound, session-state}
-use Rattle.receiver.proofs.CallParts.{fed-scan, fed-by}
+use Rattle.receiver.proofs.Refinement.{state-safe, session-sound}
+use Rattle.receiver.proofs.CallParts.{fed-by}
 use Rattle.receiver.proofs.Agreement.{stateCall, on-state, call-safe}
 
 -- ---- a call that is neither refused by 10 nor by 11 nor by 12
@@ -40,15 +37,15 @@ refused-by s calls.Answer.waiting k t e = absurd (let z : _≡_ {A = ℕ} 0 1 = 
 refused-by s {n} (calls.Answer.refused m) k t e = let z : m ≡ n = cc in ap calls.Answer.refused z
 
 pub not-refused :
-    (s : Session) (p : List ℕ) → isSound s ≡ true → length p ≤ 4096 → s .fed + length p ≤ 2 ^ 34
+    (s : Session) (p : List ℕ) → isSound s ≡ true → length p ≤ limitsOf (s .setup) .piece → s .fed + length p ≤ limitsOf (s .setup) .session
     → (n : ℕ) → feedOf s p .answer ≡ Refused n → ⊥
 not-refused s p e h k n q =
     let u = s .setup in
     let c = calls.call (verdictOf u) (stateOf s .scan) p in
-    let f = fed-by s p true c e (feed-made (verdictOf u) limits (stateOf s .scan) p h k) in
+    let f = fed-by s p true c e (feed-made (rulesOf u) (stateOf s .scan) p h k) in
     let r = carrying (consumer u) (stateOf s) c in
     let a = refused-by s (r .answer) (r .taken) (r .next) (ap (λ (x : Reply). x .answer) (sym f) ∙ q) in
-    no-refusal (verdictOf u) limits (stateOf s .scan) p (reply-refused (consumer u) (stateOf s .carried) (c .answer) a)
+    no-refusal (rulesOf u) (stateOf s .scan) p (reply-refused (consumer u) (stateOf s .carried) (c .answer) a)
 
 -- ---- a call on a session that 10 doesn't turn down
 
@@ -62,7 +59,7 @@ module _ (s : Session) (e : isSound s ≡ true) where
 
     grown-by : made .next .scan .fed ≡ s .fed + made .taken
     unfolding made feedSession
-    grown-by = feed-fed (verdictOf (s .setup)) limits _ (stateOf s .scan) p
+    grown-by = feed-fed (rulesOf (s .setup)) _ (stateOf s .scan) p
 
     -- what is promised of the reply
     pub record Good (r : Reply) : Type 0 where
@@ -90,17 +87,3 @@ module _ (s : Session) (e : isSound s ≡ true) where
           fed = good .fed;
           sum = ap (λ (u : Setup). lengthOf u * r .history .datagrams .0 + r .passed + r .count) (sym (good .setup)) ∙ F .sum;
         }
-
-  -- a piece of 0 bytes is taken and hands out nothing
-  pub empty-call : length (s .held) ≡ 64 → feedOf s [] ≡ record { answer = Waiting; taken = 0; session = s; datagram = noDatagram }
-  empty-call h =
-      let u = s .setup in
-      let M = lawful u ok in
-      let stays : calls.feed (verdictOf u) limits true (stateOf s .scan) [] ≡ record { answer = calls.Answer.waiting; taken = 0; next = stateOf s .scan } =
-      empty-piece (verdictOf u) (follows-stable (verdictOf u) (isDatagram u) (M .follows)) (M .prompt) (heldRule (u .identifier) (lengthOf u)) (M .holds) limits (stateOf s .scan)
-      (state-safe s e .scan)
-      in
-      fed-scan s []
-      ∙ ap (λ (b : Bool). replyOf s (carrying (consumer u) (stateOf s) (calls.feed (verdictOf u) limits b (stateOf s .scan) []))) e
-      ∙ ap (λ (c : Fed State (List ℕ)). replyOf s (carrying (consumer u) (stateOf s) c)) stays
-      ∙ ap (λ (r : Session). record { answer = Waiting; taken = 0; session = r; datagram = noDatagram }) (session-state s e h)

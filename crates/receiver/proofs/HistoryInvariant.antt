@@ -14,7 +14,7 @@ use Rattle.setup.specs.declared.Ruling.the-variants.{Accepted}
 use Rattle.wire.specs.Fields.{fieldsOf}
 use Rattle.wire.proofs.FieldRanges.{fields-fit}
 use Rattle.motion.specs.Totals.{stepped}
-use Rattle.scan.specs.Carry.{Keeps}
+use Rattle.scan.specs.Carry.{Invariant}
 use Rattle.search.specs.Search.{isDatagram}
 use Rattle.session.specs.Session.{axesRight}
 use Rattle.session.specs.History.{noHistory, historyNext}
@@ -22,7 +22,7 @@ use Rattle.session.specs.declared.History.{History}
 use Rattle.receiver.specs.Feed.{historyAfter, historyRight, consumer}
 use Rattle.session.proofs.AxisLaws.{axes-step, none-right}
 use Rattle.search.proofs.ByteLists.{datagram-parts}
-use Rattle.search.proofs.Datagrams.{shaped}
+use Rattle.search.proofs.Datagrams.{datagram-length}
 use Rattle.receiver.proofs.Refinement.{history-parts, parts-history}
 
 module _ (u : Setup) (ok : rulingOn u ≡ Accepted) where
@@ -36,10 +36,10 @@ module _ (u : Setup) (ok : rulingOn u ≡ Accepted) where
   next-right n x first d a e =
       let p = history-parts u n x e in
       let c = fieldsOf (u .identifier) d in
-      let l : length d ≡ lengthOf u = shaped u ok .long d a in
+      let l : length d ≡ lengthOf u = datagram-length u d a in
       let g = axes-step u (x .datagrams .0) (x .axes) (c .readings) (c .statuses) (fields-fit (u .identifier) d (datagram-parts u d a .0) .readings) (p .1) in
       parts-history u (n + length d) (historyAfter u first x d) (omega (arith, p .0, mul-add (lengthOf u) (x .datagrams .0) 1, mul-one (lengthOf u)))
       (subst (λ (k : ℕ). axesRight u k (stepped u (x .axes) (c .readings) (c .statuses)) ≡ true) (sym (add-one (x .datagrams .0))) g)
 
-  pub kept : Keeps (consumer u) (isDatagram u)
-  kept = record { at-start = start-right; at-step = λ n x d a e. next-right n x _ d a e }
+  pub history-invariant : Invariant (consumer u) (isDatagram u)
+  history-invariant = record { at-start = start-right; at-step = λ n x d a e. next-right n x _ d a e }

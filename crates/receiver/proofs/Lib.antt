@@ -5,6 +5,7 @@ pub mod CallParts
 pub mod HistoryInvariant
 pub mod Agreement
 pub mod EachCall
+pub mod OneLength
 pub mod ContainedAt
 pub mod AxisAt
 pub mod Demands

@@ -13,10 +13,10 @@ use Rattle.integers.proofs.Ranges.{and-split}
 use Rattle.setup.specs.Setup.{rulingOn, lengthOf}
 use Rattle.setup.specs.declared.Setup.{Setup}
 use Rattle.setup.specs.declared.Ruling.the-variants.{Accepted}
-use Rattle.scan.specs.Front.{heldRule}
 use Rattle.scan.proofs.CallsLaws.{and-true}
 use Rattle.scan.proofs.RunLaws.{Safe}
-use Rattle.session.specs.Session.{limits, heldBytes, allZero, axesRight, isSound, padded}
+use Rattle.search.specs.Search.{rulesOf}
+use Rattle.session.specs.Session.{heldBytes, allZero, axesRight, isSound, padded}
 use Rattle.session.specs.declared.History.{History}
 use Rattle.session.specs.declared.Session.{Session}
 use Rattle.session.proofs.Padding.{padded-front, padded-rest}
@@ -25,7 +25,7 @@ use Rattle.session.proofs.Soundness.{Facts, sound-facts, facts-sound}
 
 -- what is asked of a session of a setup
 abbrev pub SafeOf : Setup → SessionState → Type 0
-SafeOf u t = Safe (consumer u) (heldRule (u .identifier) (lengthOf u)) limits t
+SafeOf u t = Safe (consumer u) (rulesOf u) t
 
 -- ---- what refusal 10 asks of what is kept, by parts
 
@@ -49,7 +49,7 @@ pub facts-safe : (s : Session) → Facts s → SafeOf (s .setup) (stateOf s)
 facts-safe s F =
     record {
       scan = record { ruled = F .held; sum = omega (arith, F .sum, count-held s F); most = F .most };
-      fit = parts-history (s .setup) (lengthOf (s .setup) * s .history .datagrams .0) (stateOf s .carried) refl (F .axes);
+      admitted = parts-history (s .setup) (lengthOf (s .setup) * s .history .datagrams .0) (stateOf s .carried) refl (F .axes);
     }
 
 pub state-safe : (s : Session) → isSound s ≡ true → SafeOf (s .setup) (stateOf s)
@@ -74,7 +74,7 @@ module _ (u : Setup) (ok : rulingOn u ≡ Accepted) (t : SessionState) (Z : Safe
   -- the session of such a one stands for it
   pub state-of : stateOf (sessionOf u t) ≡ t
   state-of =
-      let e = history-parts u (t .scan .handed) (t .carried) (Z .fit) .0 in
+      let e = history-parts u (t .scan .handed) (t .carried) (Z .admitted) .0 in
       λ i.
       record {
         scan =
@@ -86,12 +86,12 @@ module _ (u : Setup) (ok : rulingOn u ≡ Accepted) (t : SessionState) (Z : Safe
   pub session-sound : isSound (sessionOf u t) ≡ true
   session-sound =
       let l = t .scan .held in
-      let k = history-parts u (t .scan .handed) (t .carried) (Z .fit) in
+      let k = history-parts u (t .scan .handed) (t .carried) (Z .admitted) in
       facts-sound (sessionOf u t)
       (record {
         accepted = ok;
         within = omega (arith, length-append l (replicate (64 - length l) 0));
-        held = ap (heldRule (u .identifier) (lengthOf u)) (padded-front 64 (length l) l refl) ∙ Z .scan .ruled;
+        held = ap (rulesOf u .mayHold) (padded-front 64 (length l) l refl) ∙ Z .scan .ruled;
         rest = ap allZero (padded-rest 64 l) ∙ zeros-zero (64 - length l);
         sum = omega (arith, k .0, Z .scan .sum);
         most = Z .scan .most;

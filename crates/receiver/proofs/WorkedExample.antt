@@ -10,7 +10,7 @@ use lib.IntN.{ℤ, pos}
 use lib.ListN.{getD, replicate}
 use Rattle.integers.specs.Bytes.{bigEndian, twosComplement, signedBytes}
 use Rattle.integers.specs.Folding.{fold}
-use Rattle.crc.specs.Check.{stim300, shift, shifts, byteStep, register, padding, padded, checkOf, check32}
+use Rattle.crc.specs.Check.{stim300, shift, shifts, byteStep, register, padding, covered, checkOf, check32}
 use Rattle.setup.specs.Layout.{partsAt, layoutOf, groupsCarried}
 use Rattle.setup.specs.Setup.{setupRules, rulingOn, lengthOf}
 use Rattle.setup.specs.declared.Setup.{Setup}
@@ -23,14 +23,14 @@ use Rattle.motion.specs.declared.Gap.the-variants.{Missed}
 use Rattle.motion.specs.Totals.{keeps, totalAt, fitReadings, fitBefore, readingOf, CloseFrom, Close}
 use Rattle.scan.specs.Scan.{scanFrom, scan}
 use Rattle.scan.specs.Front.{front}
-use Rattle.scan.specs.Calls.{Report, whole, turnedDown}
+use Rattle.scan.specs.Calls.{Report, takenWhole, turnedDown}
 use Rattle.scan.specs.Carry.{told}
 use Rattle.scan.specs.Stream.{outcome, reports, stream, Among}
 use Rattle.scan.proofs.AmongLaws.{scan-among}
-use Rattle.search.specs.Search.{areBytes, isDatagram, verdictOf}
-use Rattle.search.proofs.Datagrams.{lawful}
+use Rattle.scan.proofs.OneLength.{scan-bare}
+use Rattle.search.specs.Search.{areBytes, isDatagram, limitsOf, rulesOf, verdictOf}
+use Rattle.search.proofs.Datagrams.{lawful, prompt}
 use Rattle.session.specs.History.{historyNext}
-use Rattle.session.specs.Session.{limits}
 use Rattle.session.specs.declared.Session.{Session}
 use Rattle.receiver.specs.declared.Datagram.{Datagram}
 use Rattle.receiver.specs.Feed.{datagramWith, historyAfter, tell, noDatagram}
@@ -66,28 +66,29 @@ pieces = (0x01 ∷ 0x90 ∷ first) ∷ replicate 4097 0 ∷ (0x02 ∷ second ++ 
 abbrev datagrams : List (List ℕ)
 datagrams = first ∷ second ∷ (thirdFront ++ thirdRest) ∷ []
 
-stream-example : streamOf pieces ≡ 0x01 ∷ 0x90 ∷ first ++ 0x02 ∷ second ++ 0x90 ∷ thirdFront ++ thirdRest
+stream-example : streamOf example pieces ≡ 0x01 ∷ 0x90 ∷ first ++ 0x02 ∷ second ++ 0x90 ∷ thirdFront ++ thirdRest
 unfolding stream outcome
 stream-example = refl
 
 reports-example :
-    reports limits 0 pieces
-    ≡ record { outcome = whole; taken = 20 } ∷ record { outcome = turnedDown 11; taken = 0 } ∷ record { outcome = whole; taken = 25 } ∷
-    record { outcome = whole; taken = 13 } ∷ []
+    reports (limitsOf example) 0 pieces
+    ≡ record { outcome = takenWhole; taken = 20 } ∷ record { outcome = turnedDown 11; taken = 0 } ∷ record { outcome = takenWhole; taken = 25 } ∷
+    record { outcome = takenWhole; taken = 13 } ∷ []
 unfolding reports outcome
 reports-example = refl
 
-scan-example : scan (verdictOf example) (streamOf pieces) .datagrams ≡ datagrams
+scan-example : scan (verdictOf example) (streamOf example pieces) .datagrams ≡ datagrams
 unfolding
     stream outcome scanFrom front isDatagram areBytes acceptable checkRight endingRight lengthOf layoutOf partsAt bigEndian check32 checkOf stim300
-    padded padding register byteStep shifts shift
+    covered padding register byteStep shifts shift
 scan-example = refl
 
-among-example : Among (isDatagram example) (streamOf pieces) datagrams
+among-example : Among (isDatagram example) (streamOf example pieces) datagrams
 among-example =
+    let R = rulesOf example in
     let M = lawful example accepted-example in
-    subst (Among (isDatagram example) (streamOf pieces)) scan-example
-    (scan-among (verdictOf example) (isDatagram example) (M .follows) (M .prompt) (streamOf pieces))
+    let v = streamOf example pieces in
+    subst (Among (isDatagram example) v) scan-example (scan-among R M v (scan-bare R M (prompt example accepted-example) v))
 
 -- 1,000 fine units to one output step: T0 = 8388600123 and T1 = 8388616999
 abbrev angles : List ℤ

@@ -70,7 +70,7 @@ module _ (u : Setup) where
   historyRight n h = eqb n (lengthOf u * h .datagrams .0) && axesRight u (h .datagrams .0) (h .axes)
 
   abbrev pub consumer : Consumer History Datagram
-  consumer = record { start = noHistory; awaitsFirst = awaitsFirst; step = historyAfter; tell = tell; fit = historyRight }
+  consumer = record { start = noHistory; awaitsFirst = awaitsFirst; step = historyAfter; tell = tell; admits = historyRight }
 
 -- ---- where no datagram is handed out: zeros and unit 0
 

@@ -22,20 +22,21 @@ use Rattle.scan.specs.Scan.{scan}
 use Rattle.scan.specs.Calls.{Report}
 use Rattle.scan.specs.Stream.{stream, reports, NoTen, Among}
 use Rattle.scan.specs.Carry.{told}
-use Rattle.search.specs.Search.{isDatagram, verdictOf}
+use Rattle.search.specs.Search.{isDatagram, limitsOf, verdictOf}
 use Rattle.session.specs.History.{noAxis, noHistory}
-use Rattle.session.specs.Session.{limits, heldBytes, isSound, opening}
+use Rattle.session.specs.Session.{heldBytes, isSound, opening}
 use Rattle.session.specs.declared.Session.{Session}
 use Rattle.receiver.specs.declared.Datagram.{Datagram}
-use Rattle.receiver.specs.declared.Answer.the-variants.{Waiting, Refused}
+use Rattle.receiver.specs.declared.Answer.the-variants.{Refused}
 use Rattle.receiver.specs.declared.Reply.{Reply}
 use Rattle.receiver.specs.Feed.{consumer, noDatagram, refusal, feedOf, Calls}
+use Rattle.receiver.specs.OneLength.{OneLength}
 
 -- ---- what the demands speak of
 
--- the stream: the pieces within 01's limits, joined
-abbrev pub streamOf : List (List ℕ) → List ℕ
-streamOf ps = stream limits 0 ps
+-- the stream: the pieces within the limits of a setup's sessions, joined
+abbrev pub streamOf : Setup → List (List ℕ) → List ℕ
+streamOf u ps = stream (limitsOf u) 0 ps
 
 -- a list of pieces fed in turn to the session that opening a setup gives
 abbrev pub FedInTurn : Setup → List (List ℕ) → List Datagram → List Report → Session → Type 0
@@ -63,7 +64,7 @@ CanBeFed u ps = (os : List Datagram) × (rs : List Report) × (t : Session) × F
 
 -- whatever datagrams among bytes at which none begins the stream is, these are handed out, in order, each with what the rules give for it
 abbrev pub HandsOut : Setup → List (List ℕ) → List Datagram → Type 0
-HandsOut u ps os = (es : List (List ℕ)) → Among (isDatagram u) (streamOf ps) es → os ≡ answersFor u es
+HandsOut u ps os = (es : List (List ℕ)) → Among (isDatagram u) (streamOf u ps) es → os ≡ answersFor u es
 
 -- in the answer o the double of an axis is its total over 2 ^ shift, without any rounding
 abbrev pub TotalExact : Setup → ℕ → ℕ → Datagram → Type 0
@@ -88,16 +89,16 @@ pub record CallKept (s : Session) (p : List ℕ) : Type 0 where
 pub record EveryCall : Type 0 where
   -- no session that a call returns is turned down by 10, if the one that it was given isn't
   pub kept : (s : Session) → isSound s ≡ true → (p : List ℕ) → CallKept s p
-  -- a piece of 0 bytes is taken and hands out nothing (the array of held bytes has 64, as in every session value)
-  pub none-taken :
-      (s : Session) → isSound s ≡ true → length (s .held) ≡ 64
-      → feedOf s [] ≡ record { answer = Waiting; taken = 0; session = s; datagram = noDatagram }
+  -- what holds only while all datagrams have one length
+  pub one-length : OneLength
   -- a call is refused by 10, else by 11, else by 12, and by nothing else; a refusal takes no bytes and returns the session as given
   pub ten : (s : Session) (p : List ℕ) → isSound s ≡ false → feedOf s p ≡ refusal s 10
-  pub eleven : (s : Session) (p : List ℕ) → isSound s ≡ true → 4096 < length p → feedOf s p ≡ refusal s 11
-  pub twelve : (s : Session) (p : List ℕ) → isSound s ≡ true → length p ≤ 4096 → 2 ^ 34 < s .fed + length p → feedOf s p ≡ refusal s 12
+  pub eleven : (s : Session) (p : List ℕ) → isSound s ≡ true → limitsOf (s .setup) .piece < length p → feedOf s p ≡ refusal s 11
+  pub twelve :
+      (s : Session) (p : List ℕ) → isSound s ≡ true → length p ≤ limitsOf (s .setup) .piece → limitsOf (s .setup) .session < s .fed + length p
+      → feedOf s p ≡ refusal s 12
   pub no-other :
-      (s : Session) (p : List ℕ) → isSound s ≡ true → length p ≤ 4096 → s .fed + length p ≤ 2 ^ 34
+      (s : Session) (p : List ℕ) → isSound s ≡ true → length p ≤ limitsOf (s .setup) .piece → s .fed + length p ≤ limitsOf (s .setup) .session
       → (n : ℕ) → feedOf s p .answer ≡ Refused n → ⊥
   -- what a refused opening gives back is turned down by 10
   pub refused-opening :
@@ -137,10 +138,10 @@ pub record Demand2 (u : Setup) : Type 0 where
   -- its own fields, the gap to the one before it, its totals, and exact doubles
   pub contained :
       {ps : List (List ℕ)} {os : List Datagram} {rs : List Report} {t : Session} → FedInTurn u ps os rs t
-      → (es : List (List ℕ)) → Among (isDatagram u) (streamOf ps) es → (i : ℕ) → i < length es → Contained u es i (getD os i noDatagram)
+      → (es : List (List ℕ)) → Among (isDatagram u) (streamOf u ps) es → (i : ℕ) → i < length es → Contained u es i (getD os i noDatagram)
   pub exact :
       {ps : List (List ℕ)} {os : List Datagram} {rs : List Report} {t : Session} → FedInTurn u ps os rs t
-      → (es : List (List ℕ)) → Among (isDatagram u) (streamOf ps) es
+      → (es : List (List ℕ)) → Among (isDatagram u) (streamOf u ps) es
       → (i : ℕ) → i < length es → (group axis : ℕ) → group < 3 → axis < 3
       → Exact u es i (getD os i noDatagram) group axis
   -- a total depends only on its own axis's readings, its group's status bytes and which datagrams were handed out
@@ -149,12 +150,11 @@ pub record Demand2 (u : Setup) : Type 0 where
       → (ds es : List (List ℕ)) → sightings u group axis ds ≡ sightings u group axis es → (i : ℕ)
       → (totalAt (getD (answersFor u ds) i noDatagram .totals) group axis ≡ totalAt (getD (answersFor u es) i noDatagram .totals) group axis)
       × (doubleAt (getD (answersFor u ds) i noDatagram .doubles) group axis ≡ doubleAt (getD (answersFor u es) i noDatagram .doubles) group axis)
-  -- bytes fed are the stream's, and = datagram length × datagrams + bytes passed over + bytes held; the session counts the datagrams handed out,
-  -- and passed over and held are those of 01's scan
+  -- bytes fed are the stream's, and passed over and held are those of 01's scan; with the datagrams handed out they add up (OneLength.counted)
   pub bytes :
       {ps : List (List ℕ)} {os : List Datagram} {rs : List Report} {t : Session} → FedInTurn u ps os rs t
-      → (t .fed ≡ length (streamOf ps)) × (lengthOf u * length os + t .passed + t .count ≡ t .fed) × (t .history .datagrams .0 ≡ length os)
-      × (t .passed ≡ scan (verdictOf u) (streamOf ps) .passed) × (heldBytes t ≡ scan (verdictOf u) (streamOf ps) .held)
+      → (t .fed ≡ length (streamOf u ps)) × (t .passed ≡ scan (verdictOf u) (streamOf u ps) .passed)
+      × (heldBytes t ≡ scan (verdictOf u) (streamOf u ps) .held)
 
 -- ---- demand 3
 
@@ -182,16 +182,16 @@ pub record Demand3 (u : Setup) : Type 0 where
   -- each piece is turned down by 11 or else by 12, with no byte taken, or taken whole, by its length and the earlier ones' alone
   pub reported :
       {ps : List (List ℕ)} {os : List Datagram} {rs : List Report} {t : Session} → FedInTurn u ps os rs t
-      → (rs ≡ reports limits 0 ps) × NoTen rs × (t .fed ≡ length (streamOf ps))
-  -- every list of at most 2 ^ 34 bytes is the stream of some list of pieces
-  pub streams : (v : List ℕ) → length v ≤ 2 ^ 34 → (ps : List (List ℕ)) × (streamOf ps ≡ v)
+      → (rs ≡ reports (limitsOf u) 0 ps) × NoTen rs × (t .fed ≡ length (streamOf u ps))
+  -- every list of at most a session's bytes is the stream of some list of pieces
+  pub streams : (v : List ℕ) → length v ≤ limitsOf u .session → (ps : List (List ℕ)) × (streamOf u ps ≡ v)
   -- exactly the stream's datagrams are handed out, in order
   pub handed-out :
       {ps : List (List ℕ)} {os : List Datagram} {rs : List Report} {t : Session} → FedInTurn u ps os rs t → HandsOut u ps os
   -- at each of them that is fit for an axis that keeps a total, the answer stands for the change from the first true value to the one that it carries
   pub change :
       {ps : List (List ℕ)} {os : List Datagram} {rs : List Report} {t : Session} → FedInTurn u ps os rs t
-      → (es : List (List ℕ)) → Among (isDatagram u) (streamOf ps) es
+      → (es : List (List ℕ)) → Among (isDatagram u) (streamOf u ps) es
       → (group axis : ℕ) → group < 3 → axis < 3 → keeps u group ≡ true
       → (fine : ℕ) → 0 < fine → (ts : List ℤ) → Carry fine (sightings u group axis es) ts
       → (i : ℕ) → i < length es → sighting u group axis (getD es i []) .fit ≡ true

@@ -4,11 +4,11 @@ ghost use mathlib.Core.List.{[], _++_};
 ghost use Prim.Native.Nat.{_+_, _≤_, _<_, min};
 ghost use lib.ListN.{length, drop};
 ghost use lib.Seq.{sets};
-ghost use Rattle.setup.specs.Setup.{rulingOn, lengthOf};
+ghost use Rattle.setup.specs.Setup.{rulingOn};
 ghost use Rattle.setup.specs.declared.Ruling.the-variants.{Accepted};
 ghost use Rattle.motion.specs.Totals.{totalsOf};
 ghost use Rattle.scan.specs.Scan.{first, later, ends, finds};
-ghost use Rattle.search.specs.Search.{verdictOf};
+ghost use Rattle.search.specs.Search.{rulesOf, verdictOf};
 ghost use Rattle.session.specs.History.{noAxes};
 ghost use Rattle.session.specs.Session.{padded, sessionWith, heldBytes, pieceRuling};
 ghost use Rattle.receiver.specs.Feed.{datagramWith, noFields, noValues, noDoubles, noDatagram, refusal, feedOf};
@@ -290,44 +290,45 @@ fn refuse(session: Session, number: u8) -> Reply
 }
 
 // The call's scan of a piece from a place on, so many bytes having been passed over before it.
-fn scan_on(session: Session, size: usize, passed: usize, piece: &[u8], from: usize) -> Reply
-    requires { ⌜ (rulingOn (session .setup) ≡ Accepted) × (size ≡ lengthOf (session .setup)) × (from ≤ length (now piece)) × Room session (passed + length (now piece)) ⌝ }
+fn scan_on(session: Session, passed: usize, piece: &[u8], from: usize) -> Reply
+    requires { ⌜ (rulingOn (session .setup) ≡ Accepted) × (from ≤ length (now piece)) × Room session (passed + length (now piece)) ⌝ }
     ensures { λ r. ⌜ r ≡ replyAtOnce session (now (piece .entry)) (later passed (first (verdictOf (session .setup)) (drop from (now (piece .entry))))) ⌝ }
 {
     let setup = session.setup;
     let rest = &piece[from..];
     match search::find(setup, rest) {
-        Place::Whole(at) => {
+        Place::Complete(at, size) => {
             let end = at + size;
             hand_out(session, passed + at, from + end, &rest[at..end])
         }
-        Place::Open(at) => hold(session, passed + at, piece.len(), &rest[at..]),
+        Place::Undecided(at) => hold(session, passed + at, piece.len(), &rest[at..]),
     }
 }
 
 // The call's scan of the bytes held and then of a piece: of both where they meet, and from there on of the piece alone.
-fn scan_held(session: Session, size: usize, piece: &[u8]) -> Reply
-    requires { ⌜ (rulingOn (session .setup) ≡ Accepted) × (size ≡ lengthOf (session .setup)) × (session .count < size) × Room session (128 + length (now piece)) ⌝ }
+// `longest`: the greatest length of a datagram.
+fn scan_held(session: Session, longest: usize, piece: &[u8]) -> Reply
+    requires { ⌜ (rulingOn (session .setup) ≡ Accepted) × (longest ≡ rulesOf (session .setup) .greatest) × (session .count < longest) × Room session (128 + length (now piece)) ⌝ }
     ensures { λ r. ⌜ r ≡ replyAtOnce session (now (piece .entry)) (first (verdictOf (session .setup)) (heldBytes session ++ now (piece .entry))) ⌝ }
 {
     let setup = session.setup;
     let count = session.count;
     let held = session.held;
     let len = piece.len();
-    let front = least(len, size - 1);
+    let front = least(len, longest - 1);
     let joined = join(&held[..count], &piece[..front]);
     let n = count + front;
     let window = &joined[..n];
     match search::find(setup, window) {
-        Place::Whole(at) => {
+        Place::Complete(at, size) => {
             let end = at + size;
             hand_out(session, at, end - count, &window[at..end])
         }
-        Place::Open(at) => {
+        Place::Undecided(at) => {
             if front == len {
                 hold(session, at, len, &window[at..])
             } else {
-                scan_on(session, size, at, piece, at - count)
+                scan_on(session, at, piece, at - count)
             }
         }
     }
@@ -340,12 +341,11 @@ fn scan_piece(session: Session, piece: &[u8]) -> Reply
 {
     let setup = session.setup;
     let count = session.count;
-    let size = setup::length_of(setup);
     if count == 0 {
-        scan_on(session, size, 0, piece, 0)
-    } else {
-        scan_held(session, size, piece)
+        return scan_on(session, 0, piece, 0);
     }
+    let longest = setup::length_of(setup);
+    scan_held(session, longest, piece)
 }
 
 // A call: 10, 11 or 12 refuses it, or it takes bytes of the piece until a datagram is complete or the piece ends (01, The scan).

@@ -8,23 +8,21 @@ use native.Mathlib.Nat.{add-zero, mul-add, mul-one, mul-zero}
 use native.Mathlib.Numerals.{add-one}
 use native.Mathlib.Omega.{arith}
 use lib.ListN.{length, take, getD, length-append}
-use Rattle.scan.specs.Scan.{Verdict}
-use Rattle.scan.specs.Calls.{State, Limits, Answer, datagram, waiting, refused, refusing, feed}
+use Rattle.scan.specs.Rules.{Rules, verdict}
+use Rattle.scan.specs.Calls.{State, Answer, datagram, waiting, refused, refusing, feed}
 use Rattle.scan.specs.Stream.{joined, Among, end, other, then}
 use Rattle.scan.specs.Carry.{Consumer, steps, tells, told, carriedAfter, reply, Session, carrying}
 use Rattle.scan.proofs.CallsLaws.{call-fed, feed-unsound, View, over, past, made, view, refused-same}
 
 -- bytes fed grow by the bytes that a call takes, none where it is refused
-pub feed-fed :
-    (verdict : List ℕ → Verdict) (L : Limits) (ok : Bool) (s : State) (p : List ℕ)
-    → feed verdict L ok s p .next .fed ≡ s .fed + feed verdict L ok s p .taken
-feed-fed verdict L false s p = rw (feed-unsound verdict L s p) (sym (add-zero (s .fed)))
-feed-fed verdict L true s p = by (view verdict L s p)
+pub feed-fed : (R : Rules) (ok : Bool) (s : State) (p : List ℕ) → feed R ok s p .next .fed ≡ s .fed + feed R ok s p .taken
+feed-fed R false s p = rw (feed-unsound R s p) (sym (add-zero (s .fed)))
+feed-fed R true s p = by (view R s p)
   where
-    by : View verdict L s p → feed verdict L true s p .next .fed ≡ s .fed + feed verdict L true s p .taken
+    by : View R s p → feed R true s p .next .fed ≡ s .fed + feed R true s p .taken
     by (over h q) = rw q (sym (add-zero (s .fed)))
     by (past h k q) = rw q (sym (add-zero (s .fed)))
-    by (made h k q) = rw q (call-fed verdict s p)
+    by (made h k q) = rw q (call-fed (verdict R) s p)
 
 module _ {X O : Type 0} (K : Consumer X O) where
   -- a reply is a refusal only where the call was one
@@ -33,12 +31,12 @@ module _ {X O : Type 0} (K : Consumer X O) where
   reply-refused x waiting e = absurd (let z : _≡_ {A = ℕ} 0 1 = cc in omega arith)
   reply-refused x (refused m) {n} e = let z : m ≡ n = cc in ap refused z
 
-  module _ (verdict : List ℕ → Verdict) (L : Limits) (ok : Bool) (s : Session X) (p : List ℕ) {n : ℕ}
-      (e : carrying K s (feed verdict L ok (s .scan) p) .answer ≡ refused n) where
-    -- a refused call takes nothing and leaves the session as it was
-    pub session-refused : carrying K s (feed verdict L ok (s .scan) p) ≡ refusing n s
-    session-refused =
-        ap (carrying K s) (refused-same verdict L (s .scan) p ok (reply-refused (s .carried) (feed verdict L ok (s .scan) p .answer) e))
+  -- a refused call takes nothing and leaves the session as it was
+  pub session-refused :
+      (R : Rules) (ok : Bool) (s : Session X) (p : List ℕ) {n : ℕ} → carrying K s (feed R ok (s .scan) p) .answer ≡ refused n
+      → carrying K s (feed R ok (s .scan) p) ≡ refusing n s
+  session-refused R ok s p e =
+      ap (carrying K s) (refused-same R (s .scan) p ok (reply-refused (s .carried) (feed R ok (s .scan) p .answer) e))
 
   -- what comes back with the datagram at a place: of what is carried after those before it
   pub told-at :
@@ -69,11 +67,19 @@ among-each (other n a) i h = among-each a i h
 among-each (then e a) zero h = e
 among-each (then e a) (suc i) h = among-each a i (omega arith)
 
--- where all have one length, they take so many bytes together
-pub joined-length :
-    {acceptable : List ℕ → Bool} (size : ℕ) → ((d : List ℕ) → acceptable d ≡ true → length d ≡ size)
-    → {v : List ℕ} {ds : List (List ℕ)} → Among acceptable v ds → length (joined ds) ≡ size * length ds
-joined-length size long end = omega (arith, mul-zero size)
-joined-length size long (other n a) = joined-length size long a
-joined-length size long (then {d = d} {ds = ds} e a) =
-    omega (arith, length-append d (joined ds), long d e, joined-length size long a, mul-add size (length ds) 1, mul-one size, ap (λ (n : ℕ). size * n) (add-one (length ds)))
+-- of n bytes each at least, they take so many together
+pub joined-least :
+    {acceptable : List ℕ → Bool} (n : ℕ) → ((d : List ℕ) → acceptable d ≡ true → n ≤ length d)
+    → {v : List ℕ} {ds : List (List ℕ)} → Among acceptable v ds → n * length ds ≤ length (joined ds)
+joined-least n least end = omega (arith, mul-zero n)
+joined-least n least (other x a) = joined-least n least a
+joined-least n least (then {d = d} {ds = ds} e a) =
+    omega (
+      arith,
+      length-append d (joined ds),
+      least d e,
+      joined-least n least a,
+      mul-add n (length ds) 1,
+      mul-one n,
+      ap (λ (k : ℕ). n * k) (add-one (length ds)),
+    )

@@ -1,10 +1,11 @@
 pub mod ScanLaws
+pub mod FrontLaws
+pub mod AmongLaws
+pub mod PlaceLaws
 pub mod CallsLaws
 pub mod StreamLaws
-pub mod AmongLaws
-pub mod RunLaws
-pub mod FrontLaws
-pub mod PlaceLaws
 pub mod CarryLaws
-pub mod PictureLaws
+pub mod RunLaws
+pub mod Simulation
+pub mod OneLength
 pub mod Example

@@ -2,17 +2,18 @@
 -- Assumes nothing.
 use Prim.Native.Nat.{ℕ, _+_, _-_, _≤_, _<_}
 use mathlib.Core.Path.{_≡_, sym, ap, _∙_}
-use mathlib.Core.Bool.{Bool, true, false}
+use mathlib.Core.Bool.{true, false}
 use mathlib.Core.List.{List, _∷_}
 use native.Mathlib.Numerals.{add-one}
 use native.Mathlib.Omega.{arith}
-use borrow.Author.Tests.{eq-eqb, ne-eqb, le-leb, lt-leb}
 use lib.ListN.{length, take, drop, getD, length-drop}
 use lib.Seq.{drop-cons, drop-drop}
-use Rattle.scan.specs.Scan.{ends, finds, later, first}
-use Rattle.scan.specs.Front.{front}
+use Rattle.scan.specs.Scan.{Verdict, waits, passes, hands, firstBy, ends, finds, later, first}
+use Rattle.scan.specs.Rules.{Rules, verdict}
+use Rattle.scan.proofs.FrontLaws.{front-unknown, front-short, front-accepted, front-failed}
 
-module _ (identifier size : ℕ) (acceptable : List ℕ → Bool) (p : List ℕ) (i : ℕ) (h : i < length p) where
+-- n: the length of a datagram that begins with the byte at i
+module _ (R : Rules) (p : List ℕ) (i : ℕ) (h : i < length p) {n : ℕ} (told : R .candidate (getD p i 0) ≡ n) where
   -- the byte there and what follows it
   parts : drop i p ≡ getD p i 0 ∷ drop (i + 1) p
   parts = rw add-one (drop-cons p i 0 h)
@@ -20,33 +21,35 @@ module _ (identifier size : ℕ) (acceptable : List ℕ → Bool) (p : List ℕ)
   left : length (getD p i 0 ∷ drop (i + 1) p) ≡ length p - i
   left = sym (ap length parts) ∙ length-drop i p
 
-  pub passes-other :
-      (getD p i 0 ≡ identifier → ⊥)
-      → first (front identifier size acceptable) (drop i p) ≡ later 1 (first (front identifier size acceptable) (drop (i + 1) p))
-  unfolding first front
-  passes-other n = ap (first (front identifier size acceptable)) parts ∙ rw (ne-eqb (getD p i 0) identifier n)
+  same : take (R .candidate (getD p i 0)) (getD p i 0 ∷ drop (i + 1) p) ≡ take n (drop i p)
+  same = ap (λ (k : ℕ). take k (getD p i 0 ∷ drop (i + 1) p)) told ∙ ap (take n) (sym parts)
+
+  decided-there :
+      {v : Verdict} → verdict R (getD p i 0 ∷ drop (i + 1) p) ≡ v
+      → first (verdict R) (drop i p) ≡ firstBy v (drop i p) (first (verdict R) (drop (i + 1) p))
+  unfolding first
+  decided-there e = ap (first (verdict R)) parts ∙ rw (e, parts)
+
+  pub passes-other : n ≡ 0 → first (verdict R) (drop i p) ≡ later 1 (first (verdict R) (drop (i + 1) p))
+  passes-other e = decided-there (front-unknown (R .candidate) (R .acceptable) (getD p i 0) (drop (i + 1) p) (told ∙ e))
 
   pub passes-wrong :
-      getD p i 0 ≡ identifier → size ≤ length p - i → acceptable (take size (drop i p)) ≡ false
-      → first (front identifier size acceptable) (drop i p) ≡ later 1 (first (front identifier size acceptable) (drop (i + 1) p))
-  unfolding first front
-  passes-wrong e l r =
-      ap (first (front identifier size acceptable)) parts
-      ∙ rw (eq-eqb (getD p i 0) identifier e, le-leb size (length (getD p i 0 ∷ drop (i + 1) p)) (omega (arith, left)), ← parts, r)
+      n ≤ length p - i → R .acceptable (take n (drop i p)) ≡ false
+      → first (verdict R) (drop i p) ≡ later 1 (first (verdict R) (drop (i + 1) p))
+  passes-wrong l r =
+      decided-there
+      (front-failed (R .candidate) (R .acceptable) (getD p i 0) (drop (i + 1) p) (omega (arith, left, told)) (ap (R .acceptable) same ∙ r))
 
-  pub holds-short :
-      getD p i 0 ≡ identifier → length p - i < size → first (front identifier size acceptable) (drop i p) ≡ ends 0 (drop i p)
-  unfolding first front
-  holds-short e l =
-      ap (first (front identifier size acceptable)) parts
-      ∙ rw (eq-eqb (getD p i 0) identifier e, lt-leb size (length (getD p i 0 ∷ drop (i + 1) p)) (omega (arith, left)))
-      (ap (ends 0) (sym parts))
+  pub holds-short : length p - i < n → first (verdict R) (drop i p) ≡ ends 0 (drop i p)
+  holds-short l =
+      decided-there (front-short (R .candidate) (R .acceptable) (getD p i 0) (drop (i + 1) p) (omega (arith, left, told)))
 
   pub hands-right :
-      getD p i 0 ≡ identifier → size ≤ length p - i → acceptable (take size (drop i p)) ≡ true
-      → first (front identifier size acceptable) (drop i p) ≡ finds 0 (take size (drop i p)) (drop (i + size) p)
-  unfolding first front
-  hands-right e l r =
-      ap (first (front identifier size acceptable)) parts
-      ∙ rw (eq-eqb (getD p i 0) identifier e, le-leb size (length (getD p i 0 ∷ drop (i + 1) p)) (omega (arith, left)), ← parts, r)
-      (ap (finds 0 (take size (drop i p))) (drop-drop size i p))
+      1 ≤ n → n ≤ length p - i → R .acceptable (take n (drop i p)) ≡ true
+      → first (verdict R) (drop i p) ≡ finds 0 (take n (drop i p)) (drop (i + n) p)
+  hands-right some l r =
+      decided-there
+      (front-accepted (R .candidate) (R .acceptable) (getD p i 0) (drop (i + 1) p) (omega (arith, told)) (omega (arith, left, told))
+      (ap (R .acceptable) same ∙ r)
+      ∙ ap hands told)
+      ∙ ap (finds 0 (take n (drop i p))) (drop-drop n i p)

@@ -1,6 +1,6 @@
 -- Laws of the scan over any stable verdict: 01's sentences, the scan of a stream that is cut, how its bytes are parted.
 -- Assumes nothing.
-use Prim.Native.Nat.{ℕ, zero, suc, _+_, _≤_, _<_}
+use Prim.Native.Nat.{ℕ, zero, suc, pred, _+_, _≤_}
 use mathlib.Core.Path.{_≡_, refl, sym, ap, _∙_, subst}
 use mathlib.Core.List.{List, [], _∷_, _++_}
 use native.Mathlib.Nat.{zero-add, add-assoc}
@@ -8,7 +8,8 @@ use native.Mathlib.Numerals.{one-add}
 use native.Mathlib.Omega.{arith}
 use lib.ListN.{length, take, drop, length-append, length-drop}
 use lib.Seq.{take-append-le, drop-append-le, length-take-le, take-at, drop-at}
-use Rattle.scan.specs.Scan.{Verdict, waits, passes, hands, Scanned, holding, passing, handing, decided, scanFrom, scan, First, ends, finds, later, firstBy, first, Undecided, Stable, Prompt}
+use Rattle.scan.specs.Scan.{Verdict, waits, passes, hands, Scanned, holding, passing, handing, decided, scanFrom, scan}
+use Rattle.scan.specs.Scan.{First, ends, finds, later, firstBy, first, Undecided, Stable}
 
 pub later-zero : (f : First) → later 0 f ≡ f
 later-zero (ends n h) = ap (λ (k : ℕ). ends k h) (zero-add n)
@@ -18,7 +19,7 @@ pub later-later : (m n : ℕ) (f : First) → later m (later n f) ≡ later (m +
 later-later m n (ends k h) = rw add-assoc
 later-later m n (finds k d r) = rw add-assoc
 
-pub passing-zero : (r : Scanned) → passing 0 r ≡ r
+passing-zero : (r : Scanned) → passing 0 r ≡ r
 passing-zero r = ap (λ (k : ℕ). record { datagrams = r .datagrams; passed = k; held = r .held }) (zero-add (r .passed))
 
 passing-passing : (m n : ℕ) (r : Scanned) → passing m (passing n r) ≡ passing (m + n) r
@@ -52,6 +53,24 @@ module _ (verdict : List ℕ → Verdict) where
   pub scan-passes : (b : ℕ) (u : List ℕ) → verdict (b ∷ u) ≡ passes → scan verdict (b ∷ u) ≡ passing 1 (scan verdict u)
   unfolding scanFrom
   scan-passes b u e = rw e
+
+  -- what the scan holds at the end of a stream is undecided
+  undecided-from : (k : ℕ) (u : List ℕ) → Undecided verdict (scanFrom verdict k u .held)
+  unfolding scanFrom
+  undecided-from zero [] = tt
+  undecided-from (suc k) [] = tt
+  undecided-from (suc k) (b ∷ u) = undecided-from k u
+  undecided-from zero (b ∷ u) = go (verdict (b ∷ u)) refl (λ (k : ℕ). undecided-from k u)
+    where
+      go :
+          (w : Verdict) → verdict (b ∷ u) ≡ w → ((k : ℕ) → Undecided verdict (scanFrom verdict k u .held))
+          → Undecided verdict (decided (verdict (b ∷ u)) (b ∷ u) (λ (k : ℕ). scanFrom verdict k u) .held)
+      go waits e on = rw e e
+      go passes e on = rw e (on 0)
+      go (hands n) e on = rw e (on (pred n))
+
+  pub scan-undecided : (u : List ℕ) → Undecided verdict (scan verdict u .held)
+  scan-undecided u = undecided-from 0 u
 
   pub first-undecided : (u : List ℕ) → Undecided verdict u → first verdict u ≡ ends 0 u
   unfolding first
@@ -161,20 +180,3 @@ module _ (verdict : List ℕ → Verdict) where
 
     pub parted-at : (u : List ℕ) {f : First} → first verdict u ≡ f → Parted u f
     parted-at u e = subst (Parted u) e (parted u)
-
-    -- Where one more byte completes a datagram, that byte is its last
-    pub behind-none :
-        Prompt verdict → (h : List ℕ) → Undecided verdict h → (b : ℕ) {n : ℕ} {d r : List ℕ}
-        → first verdict (h ++ b ∷ []) ≡ finds n d r → r ≡ []
-    behind-none P h w b {n} {d} {r} e = empty r (omega (arith, k .0, length-append h (b ∷ []), long h w))
-      where
-        k : Parted (h ++ b ∷ []) (finds n d r)
-        k = parted-at (h ++ b ∷ []) e
-
-        long : (h : List ℕ) → Undecided verdict h → length h < length d
-        long [] w = S .some _ (length d) (k .3)
-        long (c ∷ h) w = P .longer (c ∷ h) _ (length d) w (k .3)
-
-        empty : (r : List ℕ) → length r ≤ 0 → r ≡ []
-        empty [] l = refl
-        empty (c ∷ r) l = absurd (omega arith)

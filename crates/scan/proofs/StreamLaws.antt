@@ -8,11 +8,12 @@ use native.Mathlib.Decide.{decLe}
 use native.Mathlib.Omega.{arith}
 use borrow.Author.Tests.{le-leb, lt-leb}
 use lib.ListN.{length, drop, length-append, length-drop}
-use Rattle.scan.specs.Calls.{Limits, Outcome, whole, turnedDown, Report, taking-more}
-use Rattle.scan.specs.Stream.{outcome, kept, counted, joined, reports, NoTen, stream}
+use Rattle.scan.specs.Rules.{Limits}
+use Rattle.scan.specs.Calls.{takenWhole, turnedDown, Outcome, Report, taking-more}
+use Rattle.scan.specs.Stream.{outcome, takenBy, joined, reports, NoTen, stream}
 
 module _ (L : Limits) (n k : ℕ) where
-  pub outcome-over : L .piece < k → outcome L n k ≡ turnedDown 11
+  pub outcome-over : L .piece < k → outcome L n k ≡ turnedDown (L .tooLong)
   unfolding outcome
   outcome-over h = rw (lt-leb k (L .piece) h)
 
@@ -20,32 +21,32 @@ module _ (L : Limits) (n k : ℕ) where
   unfolding outcome
   outcome-past h l = rw (le-leb k (L .piece) h, lt-leb (n + k) (L .session) l)
 
-  pub outcome-whole : k ≤ L .piece → n + k ≤ L .session → outcome L n k ≡ whole
+  pub outcome-taken : k ≤ L .piece → n + k ≤ L .session → outcome L n k ≡ takenWhole
   unfolding outcome
-  outcome-whole h l = rw (le-leb k (L .piece) h, le-leb (n + k) (L .session) l)
+  outcome-taken h l = rw (le-leb k (L .piece) h, le-leb (n + k) (L .session) l)
 
   -- one of the three it is
-  pub data Sorted : Type 0 where
-    over : L .piece < k → outcome L n k ≡ turnedDown 11 → Sorted
+  data Sorted : Type 0 where
+    over : L .piece < k → outcome L n k ≡ turnedDown (L .tooLong) → Sorted
     past : k ≤ L .piece → L .session < n + k → outcome L n k ≡ turnedDown 12 → Sorted
-    taken : k ≤ L .piece → n + k ≤ L .session → outcome L n k ≡ whole → Sorted
+    taken : k ≤ L .piece → n + k ≤ L .session → outcome L n k ≡ takenWhole → Sorted
 
-  pub sorted : Sorted
+  sorted : Sorted
   sorted = go (decLe k (L .piece)) (decLe (n + k) (L .session))
     where
       go : Dec (k ≤ L .piece) → Dec (n + k ≤ L .session) → Sorted
       go (no h) l = let g : L .piece < k = omega arith in over g (outcome-over g)
       go (yes h) (no l) = let g : L .session < n + k = omega arith in past h g (outcome-past h g)
-      go (yes h) (yes l) = taken h l (outcome-whole h l)
+      go (yes h) (yes l) = taken h l (outcome-taken h l)
 
-  pub outcome-not-ten : outcome L n k ≡ turnedDown 10 → ⊥
-  outcome-not-ten e = by sorted
+  outcome-not-ten : (L .tooLong ≡ 10 → ⊥) → outcome L n k ≡ turnedDown 10 → ⊥
+  outcome-not-ten ten e = by sorted
     where
       other : {m : ℕ} → (m ≡ 10 → ⊥) → outcome L n k ≡ turnedDown m → ⊥
       other h q = h (cc)
 
       by : Sorted → ⊥
-      by (over a q) = other (λ z. omega arith) q
+      by (over a q) = other ten q
       by (past a b q) = other (λ z. omega arith) q
       by (taken a b q) = let z : _≡_ {A = ℕ} 0 1 = cc in omega arith
 
@@ -62,29 +63,29 @@ module _ (L : Limits) (n : ℕ) (p : List ℕ) (ps : List (List ℕ)) where
   reports-down e = rw (e, add-zero n)
 
   -- a piece that is taken whole comes first
-  pub stream-whole : outcome L n (length p) ≡ whole → stream L n (p ∷ ps) ≡ p ++ stream L (n + length p) ps
+  pub stream-whole : outcome L n (length p) ≡ takenWhole → stream L n (p ∷ ps) ≡ p ++ stream L (n + length p) ps
   unfolding stream
   stream-whole e = rw e
 
   pub reports-whole :
-      outcome L n (length p) ≡ whole
-      → reports L n (p ∷ ps) ≡ record { outcome = whole; taken = length p } ∷ reports L (n + length p) ps
+      outcome L n (length p) ≡ takenWhole
+      → reports L n (p ∷ ps) ≡ record { outcome = takenWhole; taken = length p } ∷ reports L (n + length p) ps
   unfolding reports
   reports-whole e = rw e
 
 module _ (L : Limits) (n : ℕ) (p : List ℕ) (ps : List (List ℕ)) (small : length p ≤ L .piece) (fits : n + length p ≤ L .session) where
   -- what is left of such a piece behind k bytes of it
   module _ (k : ℕ) (less : k ≤ length p) where
-    rest-whole : outcome L (n + k) (length (drop k p)) ≡ whole
-    rest-whole =
+    pub rest-taken : outcome L (n + k) (length (drop k p)) ≡ takenWhole
+    rest-taken =
         let l : length (drop k p) ≡ length p - k = length-drop k p in
-        outcome-whole L (n + k) (length (drop k p)) (omega arith) (omega arith)
+        outcome-taken L (n + k) (length (drop k p)) (omega arith) (omega arith)
 
     back : n + k + length (drop k p) ≡ n + length p
     back = omega (arith, length-drop k p)
 
     pub stream-rest : stream L (n + k) (drop k p ∷ ps) ≡ drop k p ++ stream L (n + length p) ps
-    stream-rest = stream-whole L (n + k) (drop k p) ps rest-whole ∙ ap (λ (m : ℕ). drop k p ++ stream L m ps) back
+    stream-rest = stream-whole L (n + k) (drop k p) ps rest-taken ∙ ap (λ (m : ℕ). drop k p ++ stream L m ps) back
 
     pub reports-rest :
         {x : Report} {rs : List Report} → x ∷ rs ≡ reports L (n + k) (drop k p ∷ ps)
@@ -92,57 +93,40 @@ module _ (L : Limits) (n : ℕ) (p : List ℕ) (ps : List (List ℕ)) (small : l
     reports-rest {x} {rs} e =
         go
         (e
-        ∙ reports-whole L (n + k) (drop k p) ps rest-whole
-        ∙ ap (λ (j : ℕ). record { outcome = whole; taken = length (drop k p) } ∷ reports L j ps) back)
+        ∙ reports-whole L (n + k) (drop k p) ps rest-taken
+        ∙ ap (λ (j : ℕ). record { outcome = takenWhole; taken = length (drop k p) } ∷ reports L j ps) back)
       where
         go :
-            x ∷ rs ≡ record { outcome = whole; taken = length (drop k p) } ∷ reports L (n + length p) ps
+            x ∷ rs ≡ record { outcome = takenWhole; taken = length (drop k p) } ∷ reports L (n + length p) ps
             → taking-more k x ∷ rs ≡ reports L n (p ∷ ps)
         go f =
-            let g : x ≡ record { outcome = whole; taken = length (drop k p) } = cc in
+            let g : x ≡ record { outcome = takenWhole; taken = length (drop k p) } = cc in
             let h : rs ≡ reports L (n + length p) ps = cc in
             let sum : k + length (drop k p) ≡ length p = omega (arith, back) in
-            rw (g, h, sum, reports-whole L n p ps (outcome-whole L n (length p) small fits))
+            rw (g, h, sum, reports-whole L n p ps (outcome-taken L n (length p) small fits))
 
-pub reports-no-ten : (L : Limits) (n : ℕ) (ps : List (List ℕ)) → NoTen (reports L n ps)
+pub reports-no-ten : (L : Limits) → (L .tooLong ≡ 10 → ⊥) → (n : ℕ) (ps : List (List ℕ)) → NoTen (reports L n ps)
 unfolding reports
-reports-no-ten L n [] = tt
-reports-no-ten L n (p ∷ ps) =
-    (outcome-not-ten L n (length p), reports-no-ten L (n + counted (outcome L n (length p)) (length p)) ps)
-
--- the bytes taken of all pieces are the stream's
-abbrev pub takenOf : List Report → ℕ
-takenOf [] = 0
-takenOf (r ∷ rs) = r .taken + takenOf rs
-
-length-kept : (o : Outcome) (p : List ℕ) → length (kept o p) ≡ counted o (length p)
-length-kept whole p = refl
-length-kept (turnedDown n) p = refl
-
-pub reports-taken : (L : Limits) (n : ℕ) (ps : List (List ℕ)) → takenOf (reports L n ps) ≡ length (stream L n ps)
-unfolding reports stream
-reports-taken L n [] = refl
-reports-taken L n (p ∷ ps) =
-    let o : Outcome = outcome L n (length p) in
-    let v : List ℕ = stream L (n + counted o (length p)) ps in
-    omega (arith, reports-taken L (n + counted o (length p)) ps, length-kept o p, length-append (kept o p) v)
+reports-no-ten L ten n [] = tt
+reports-no-ten L ten n (p ∷ ps) =
+    (outcome-not-ten L n (length p) ten, reports-no-ten L ten (n + length (takenBy (outcome L n (length p)) p)) ps)
 
 -- Pieces that keep to the limits are all taken, joined
 abbrev pub Within : ℕ → List (List ℕ) → Type 0
 Within m [] = Unit {0}
 Within m (p ∷ ps) = (length p ≤ m) × Within m ps
 
-pub stream-joined :
+stream-joined :
     (L : Limits) (n : ℕ) (ps : List (List ℕ)) → Within (L .piece) ps → n + length (joined ps) ≤ L .session → stream L n ps ≡ joined ps
 unfolding stream
 stream-joined L n [] w h = refl
 stream-joined L n (p ∷ ps) w h =
     let l = length-append p (joined ps) in
-    stream-whole L n p ps (outcome-whole L n (length p) (w .0) (omega arith))
+    stream-whole L n p ps (outcome-taken L n (length p) (w .0) (omega arith))
     ∙ ap (λ (v : List ℕ). p ++ v) (stream-joined L (n + length p) ps (w .1) (omega arith))
 
 -- Every list of at most a session's bytes is the stream of some list of pieces: its bytes one by one
-abbrev pub singly : List ℕ → List (List ℕ)
+abbrev singly : List ℕ → List (List ℕ)
 singly [] = []
 singly (b ∷ u) = (b ∷ []) ∷ singly u
 

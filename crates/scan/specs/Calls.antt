@@ -2,11 +2,12 @@
 -- Assumes nothing.
 use Prim.Native.Nat.{ℕ, suc, _+_}
 use mathlib.Core.Path.{_≡_}
-use mathlib.Core.Bool.{Bool, cond, true, _&&_}
+use mathlib.Core.Bool.{Bool, cond, _&&_}
 use mathlib.Core.List.{List, [], _∷_, _++_}
 use lib.Dec.{eqb, leb}
 use lib.ListN.{length, take, drop}
-use Rattle.scan.specs.Scan.{Verdict, First, ends, finds, first, Undecided}
+use Rattle.scan.specs.Scan.{Verdict, First, ends, finds, first}
+use Rattle.scan.specs.Rules.{Rules, verdict}
 
 -- What a session keeps of the scan: the bytes held, and how many bytes were handed out, passed over and fed
 pub record State : Type 0 where
@@ -19,15 +20,10 @@ pub record State : Type 0 where
 abbrev pub fresh : State
 fresh = record { held = []; handed = 0; passed = 0; fed = 0 }
 
--- The most bytes of a piece, and of a session
-pub record Limits : Type 0 where
-  pub piece : ℕ
-  pub session : ℕ
-
 -- What refusal 10 asks of the bytes and counts: held bytes by the rule, a byte sum that is right, no more fed than a session's bytes
-unfoldable pub sound : (List ℕ → Bool) → Limits → State → Bool
-sound rule L s =
-    rule (s .held) && (eqb (s .handed + s .passed + length (s .held)) (s .fed) && leb (s .fed) (L .session))
+unfoldable pub sound : Rules → State → Bool
+sound R s =
+    R .mayHold (s .held) && (eqb (s .handed + s .passed + length (s .held)) (s .fed) && leb (s .fed) (R .limits .session))
 
 -- Which happened: a datagram was handed out, the piece ended, the call was refused by a number
 pub data Answer (O : Type 0) : Type 0 where
@@ -73,23 +69,18 @@ module _ (verdict : List ℕ → Verdict) where
       let k : ℕ = takes (s .held) p in
       taking s k (first verdict (s .held ++ take k p))
 
-  -- A call, of whether the session is sound: refused by 10, 11 or 12, or made
-  unfoldable pub feed : Limits → Bool → State → List ℕ → Fed State (List ℕ)
-  feed L ok s p =
-      cond ok
-      (cond (leb (length p) (L .piece))
-      (cond (leb (s .fed + length p) (L .session)) (call s p) (refusing 12 s))
-      (refusing 11 s))
-      (refusing 10 s)
-
-  -- How a rule for held bytes belongs to the verdict: it lets pass what is undecided, and nothing else
-  pub record Holds (rule : List ℕ → Bool) : Type 0 where
-    pub held : (u : List ℕ) → Undecided verdict u → rule u ≡ true
-    pub undecided : (u : List ℕ) → rule u ≡ true → Undecided verdict u
+-- A call, of whether the session is sound: refused by 10, by the number for a piece that is too long, or by 12, or made
+unfoldable pub feed : Rules → Bool → State → List ℕ → Fed State (List ℕ)
+feed R ok s p =
+    cond ok
+    (cond (leb (length p) (R .limits .piece))
+    (cond (leb (s .fed + length p) (R .limits .session)) (call (verdict R) s p) (refusing 12 s))
+    (refusing (R .limits .tooLong) s))
+    (refusing 10 s)
 
 -- What became of a piece: taken whole, or turned down by a number
 pub data Outcome : Type 0 where
-  whole : Outcome
+  takenWhole : Outcome
   turnedDown : ℕ → Outcome
 
 -- with how many bytes its calls took of it
@@ -113,7 +104,7 @@ pub data Run {S O : Type 0} (feed : S → List ℕ → Fed S O) : S → List (Li
       {s t : S} {p : List ℕ} {ps : List (List ℕ)} {os : List O} {rs : List Report}
       → feed s p .answer ≡ waiting
       → Run feed (feed s p .next) ps os rs t
-      → Run feed s (p ∷ ps) os (record { outcome = whole; taken = feed s p .taken } ∷ rs) t
+      → Run feed s (p ∷ ps) os (record { outcome = takenWhole; taken = feed s p .taken } ∷ rs) t
   hand :
       {s t : S} {p : List ℕ} {o : O} {ps : List (List ℕ)} {os : List O} {r : Report} {rs : List Report}
       → feed s p .answer ≡ datagram o
@@ -123,4 +114,4 @@ pub data Run {S O : Type 0} (feed : S → List ℕ → Fed S O) : S → List (Li
   skip :
       {s t : S} {ps : List (List ℕ)} {os : List O} {rs : List Report}
       → Run feed s ps os rs t
-      → Run feed s ([] ∷ ps) os (record { outcome = whole; taken = 0 } ∷ rs) t
+      → Run feed s ([] ∷ ps) os (record { outcome = takenWhole; taken = 0 } ∷ rs) t

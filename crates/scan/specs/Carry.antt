@@ -5,9 +5,10 @@ use mathlib.Core.Path.{_≡_}
 use mathlib.Core.Bool.{Bool, true, _&&_}
 use mathlib.Core.List.{List, [], _∷_}
 use lib.ListN.{length}
-use Rattle.scan.specs.Scan.{Verdict, scan}
-use Rattle.scan.specs.Calls.{State, fresh, Limits, sound, Answer, datagram, waiting, refused, Fed, feed, Report, Run}
-use Rattle.scan.specs.Stream.{reports, stream, joined, Among}
+use Rattle.scan.specs.Scan.{scan}
+use Rattle.scan.specs.Rules.{Rules, verdict}
+use Rattle.scan.specs.Calls.{State, fresh, sound, Answer, datagram, waiting, refused, Fed, feed, Report, Run}
+use Rattle.scan.specs.Stream.{reports, stream, joined, Among, Bare}
 
 -- X is what is carried, O what comes back with a datagram
 pub record Consumer (X O : Type 0) : Type 0 where
@@ -18,7 +19,7 @@ pub record Consumer (X O : Type 0) : Type 0 where
   pub step : Bool → X → List ℕ → X
   pub tell : Bool → X → List ℕ → O
   -- what refusal 10 asks of what is carried after so many bytes handed out
-  pub fit : ℕ → X → Bool
+  pub admits : ℕ → X → Bool
 
 module _ {X O : Type 0} (K : Consumer X O) where
   -- what a datagram does and what comes back with it, of what is carried: both by the one mark
@@ -58,8 +59,8 @@ module _ {X O : Type 0} (K : Consumer X O) where
   freshSession = record { scan = fresh; carried = K .start }
 
   -- what refusal 10 asks of the whole session
-  abbrev pub soundSession : (List ℕ → Bool) → Limits → Session X → Bool
-  soundSession rule L s = sound rule L (s .scan) && K .fit (s .scan .handed) (s .carried)
+  abbrev pub soundSession : Rules → Session X → Bool
+  soundSession R s = sound R (s .scan) && K .admits (s .scan .handed) (s .carried)
 
   abbrev pub carrying : Session X → Fed State (List ℕ) → Fed (Session X) O
   carrying s c =
@@ -69,42 +70,42 @@ module _ {X O : Type 0} (K : Consumer X O) where
         next = record { scan = c .next; carried = carriedOn K (s .carried) (c .answer) };
       }
 
-  module _ (verdict : List ℕ → Verdict) (rule : List ℕ → Bool) (L : Limits) where
-    -- A call on the whole session
-    unfoldable pub feedSession : Session X → List ℕ → Fed (Session X) O
-    feedSession s p = carrying s (feed verdict L (soundSession rule L s) (s .scan) p)
+  -- A call on the whole session
+  unfoldable pub feedSession : Rules → Session X → List ℕ → Fed (Session X) O
+  feedSession R s p = carrying s (feed R (soundSession R s) (s .scan) p)
 
-    -- A list of pieces fed by such calls
-    abbrev pub SessionRun : Session X → List (List ℕ) → List O → List Report → Session X → Type 0
-    SessionRun = Run feedSession
+  -- A list of pieces fed by such calls
+  abbrev pub SessionRun : Rules → Session X → List (List ℕ) → List O → List Report → Session X → Type 0
+  SessionRun R = Run (feedSession R)
 
 -- What refusal 10 asks of what is carried stands at the start and after every acceptable datagram
-pub record Keeps {X O : Type 0} (K : Consumer X O) (acceptable : List ℕ → Bool) : Type 0 where
-  pub at-start : K .fit 0 (K .start) ≡ true
+pub record Invariant {X O : Type 0} (K : Consumer X O) (acceptable : List ℕ → Bool) : Type 0 where
+  pub at-start : K .admits 0 (K .start) ≡ true
   pub at-step :
-      (n : ℕ) (x : X) (d : List ℕ) → acceptable d ≡ true → K .fit n x ≡ true
-      → K .fit (n + length d) (steps K x d) ≡ true
+      (n : ℕ) (x : X) (d : List ℕ) → acceptable d ≡ true → K .admits n x ≡ true
+      → K .admits (n + length d) (steps K x d) ≡ true
 
 -- Nothing carried, and the datagram itself comes back
 abbrev pub plain : Consumer (Unit {0}) (List ℕ)
-plain = record { start = tt; awaitsFirst = λ x. true; step = λ f x d. x; tell = λ f x d. d; fit = λ n x. true }
+plain = record { start = tt; awaitsFirst = λ x. true; step = λ f x d. x; tell = λ f x d. d; admits = λ n x. true }
 
 -- What is promised of a list of pieces fed to a fresh session: of what was handed out, the reports and the session at the end
-pub record Delivered {X O : Type 0} (K : Consumer X O) (verdict : List ℕ → Verdict) (acceptable rule : List ℕ → Bool) (L : Limits)
+pub record Delivered {X O : Type 0} (K : Consumer X O) (R : Rules)
     (ps : List (List ℕ)) (os : List O) (rs : List Report) (t : Session X) : Type 0 where
   pub datagrams : List (List ℕ)
-  -- these are the stream's datagrams, and no other list is
-  pub among : Among acceptable (stream L 0 ps) datagrams
-  pub only : (ds : List (List ℕ)) → Among acceptable (stream L 0 ps) ds → ds ≡ datagrams
+  -- these are the stream's datagrams, and no other list is, if none begins among the bytes held at the end
+  pub among : Bare (R .acceptable) (t .scan .held) → Among (R .acceptable) (stream (R .limits) 0 ps) datagrams
+  pub only :
+      Bare (R .acceptable) (t .scan .held) → (ds : List (List ℕ)) → Among (R .acceptable) (stream (R .limits) 0 ps) ds → ds ≡ datagrams
   -- each was handed out once, in its order
   pub handed-out : os ≡ told K (K .start) datagrams
   pub carried : t .carried ≡ carriedAfter K (K .start) datagrams
-  -- each piece was taken whole, or turned down by 11 or else by 12
-  pub reported : rs ≡ reports L 0 ps
+  -- each piece was taken whole, or turned down as too long or else by 12
+  pub reported : rs ≡ reports (R .limits) 0 ps
   -- the bytes fed are the stream's: each was handed out, passed over or is held
-  pub fed : t .scan .fed ≡ length (stream L 0 ps)
+  pub fed : t .scan .fed ≡ length (stream (R .limits) 0 ps)
   pub handed : t .scan .handed ≡ length (joined datagrams)
-  pub passed : t .scan .passed ≡ scan verdict (stream L 0 ps) .passed
-  pub held : t .scan .held ≡ scan verdict (stream L 0 ps) .held
+  pub passed : t .scan .passed ≡ scan (verdict R) (stream (R .limits) 0 ps) .passed
+  pub held : t .scan .held ≡ scan (verdict R) (stream (R .limits) 0 ps) .held
   pub sum : t .scan .handed + t .scan .passed + length (t .scan .held) ≡ t .scan .fed
-  pub safe : soundSession K rule L t ≡ true
+  pub safe : soundSession K R t ≡ true

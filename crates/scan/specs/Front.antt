@@ -1,35 +1,29 @@
--- The verdict where all datagrams have one identifier and one length (01, The scan), and the rule for held bytes.
+-- What is decided at the front of the undecided bytes (01, The scan).
 -- Assumes nothing.
-use Prim.Native.Nat.{ℕ, _≤_}
+use Prim.Native.Nat.{ℕ, zero, suc, _≤_}
 use mathlib.Core.Path.{_≡_}
-use mathlib.Core.Bool.{Bool, true, false, _&&_}
+use mathlib.Core.Bool.{Bool, true, false}
 use mathlib.Core.List.{List, [], _∷_}
-use lib.Dec.{eqb, leb, ltb}
+use lib.Dec.{leb}
 use lib.ListN.{length, take, getD}
 use Rattle.scan.specs.Scan.{Verdict, waits, passes, hands}
 
--- Of whether the identifier is there, whether enough bytes are, and whether these are acceptable:
--- a byte other than the identifier is passed over; with the identifier there the scan waits for n bytes;
+-- Of the length of a datagram that begins with the front byte, whether as many bytes are there, and whether these are acceptable:
+-- a byte that begins none, of length 0, is passed over; with another there the scan waits for that many bytes;
 -- if they are acceptable it hands them out, otherwise it passes over one byte only
-abbrev pub frontBy : Bool → Bool → Bool → ℕ → Verdict
-frontBy false enough right n = passes
-frontBy true false right n = waits
-frontBy true true true n = hands n
-frontBy true true false n = passes
+abbrev pub frontBy : ℕ → Bool → Bool → Verdict
+frontBy zero enough right = passes
+frontBy (suc n) false right = waits
+frontBy (suc n) true true = hands (suc n)
+frontBy (suc n) true false = passes
 
-module _ (identifier size : ℕ) where
-  unfoldable pub front : (List ℕ → Bool) → List ℕ → Verdict
-  front acceptable [] = waits
-  front acceptable (b ∷ u) =
-      frontBy (eqb b identifier) (leb size (length (b ∷ u))) (acceptable (take size (b ∷ u))) size
+-- candidate: a first byte to the length of a datagram that begins with it, 0 for a byte that begins none
+module _ (candidate : ℕ → ℕ) (acceptable : List ℕ → Bool) where
+  unfoldable pub front : List ℕ → Verdict
+  front [] = waits
+  front (b ∷ u) = frontBy (candidate b) (leb (candidate b) (length (b ∷ u))) (acceptable (take (candidate b) (b ∷ u)))
 
-  -- Held bytes are none, or begin with the identifier and number less than the length
-  unfoldable pub heldRule : List ℕ → Bool
-  heldRule [] = true
-  heldRule (b ∷ u) = eqb b identifier && ltb (length (b ∷ u)) size
-
-  -- Acceptable datagrams have that length and begin with that identifier
-  pub record Shaped (acceptable : List ℕ → Bool) : Type 0 where
-    pub some : 1 ≤ size
-    pub long : (d : List ℕ) → acceptable d ≡ true → length d ≡ size
-    pub begins : (d : List ℕ) → acceptable d ≡ true → getD d 0 0 ≡ identifier
+  -- An acceptable datagram is a byte at least, and has the length that its first byte tells
+  pub record Shaped : Type 0 where
+    pub some : (d : List ℕ) → acceptable d ≡ true → 1 ≤ length d
+    pub long : (d : List ℕ) → acceptable d ≡ true → candidate (getD d 0 0) ≡ length d

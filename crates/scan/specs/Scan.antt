@@ -1,6 +1,6 @@
 -- The scan of a stream (01, The scan), over any verdict on the front of the undecided bytes.
 -- Assumes nothing.
-use Prim.Native.Nat.{ℕ, zero, suc, pred, _+_, _≤_, _<_}
+use Prim.Native.Nat.{ℕ, zero, suc, pred, _+_, _≤_}
 use mathlib.Core.Path.{_≡_}
 use mathlib.Core.List.{List, [], _∷_, _++_}
 use lib.ListN.{length, take, drop}
@@ -74,8 +74,3 @@ module _ (verdict : List ℕ → Verdict) where
     pub hands-on : (u v : List ℕ) (n : ℕ) → verdict u ≡ hands n → verdict (u ++ v) ≡ hands n
     pub some : (u : List ℕ) (n : ℕ) → verdict u ≡ hands n → 1 ≤ n
     pub there : (u : List ℕ) (n : ℕ) → verdict u ≡ hands n → n ≤ length u
-
-  -- A datagram is longer than any bytes that the verdict waits on (so it is where all datagrams have one length):
-  -- it is handed out as its last byte comes
-  pub record Prompt : Type 0 where
-    pub longer : (u v : List ℕ) (n : ℕ) → verdict u ≡ waits → verdict v ≡ hands n → length u < n

@@ -1,27 +1,41 @@
--- The datagrams of an accepted setup have one length and one identifier, and the verdict on them is lawful.
+-- The rules of an accepted setup belong together; its datagrams have one identifier and one length.
+use Prim.Native.Nat.{ℕ, _≤_}
 use mathlib.Core.Path.{_≡_}
+use mathlib.Core.Bool.{true}
+use mathlib.Core.List.{List}
 use native.Mathlib.Omega.{arith}
+use lib.ListN.{length, getD}
 use Rattle.setup.specs.Setup.{rulingOn, lengthOf}
 use Rattle.setup.specs.declared.Setup.{Setup}
 use Rattle.setup.specs.declared.Ruling.the-variants.{Accepted}
-use Rattle.setup.proofs.Refusals.{accepted-length}
-use Rattle.wire.proofs.Acceptance.{accepted}
-use Rattle.scan.specs.Front.{heldRule, Shaped}
-use Rattle.scan.specs.Stream.{Lawful}
-use Rattle.scan.proofs.FrontLaws.{front-lawful}
-use Rattle.search.specs.Search.{isDatagram, verdictOf}
+use Rattle.setup.proofs.Refusals as refusals
+use Rattle.wire.proofs.Acceptance.{accepted, accepted-length}
+use Rattle.scan.specs.Rules.{Lawful}
+use Rattle.scan.specs.OneLength.{Prompt}
+use Rattle.scan.proofs.OneLength.{one-length-lawful, one-length-prompt}
+use Rattle.search.specs.Search.{isDatagram, limitsOf, rulesOf}
 use Rattle.search.proofs.ByteLists.{datagram-parts}
 
-module _ (u : Setup) (a : rulingOn u ≡ Accepted) where
-  -- they have the setup's length and begin with its identifier
-  pub shaped : Shaped (u .identifier) (lengthOf u) (isDatagram u)
-  shaped =
-      record {
-        some = omega (arith, accepted-length u a .0);
-        long = λ d e. accepted u d (datagram-parts u d e .1) .long;
-        begins = λ d e. accepted u d (datagram-parts u d e .1) .first;
-      }
+-- a datagram has the setup's length and begins with its identifier
+module _ (u : Setup) (d : List ℕ) (good : isDatagram u d ≡ true) where
+  pub datagram-length : length d ≡ lengthOf u
+  datagram-length = accepted u d (datagram-parts u d good .1) .long
 
-  -- so all that the scan asks of a verdict holds
-  pub lawful : Lawful (verdictOf u) (isDatagram u) (heldRule (u .identifier) (lengthOf u))
-  lawful = front-lawful (u .identifier) (lengthOf u) (isDatagram u) shaped
+  pub datagram-first : getD d 0 0 ≡ u .identifier
+  datagram-first = accepted u d (datagram-parts u d good .1) .first
+
+  -- 18 bytes at least
+  pub datagram-least : 18 ≤ length d
+  datagram-least = accepted-length u d (datagram-parts u d good .1) .0
+
+module _ (u : Setup) (a : rulingOn u ≡ Accepted) where
+  some : 1 ≤ lengthOf u
+  some = omega (arith, refusals.accepted-length u a .0)
+
+  -- so all that the scan asks of the rules holds
+  pub lawful : Lawful (rulesOf u)
+  lawful = one-length-lawful (u .identifier) (lengthOf u) (isDatagram u) (limitsOf u) some (datagram-length u) (datagram-first u)
+
+  -- and what holds for one length only
+  pub prompt : Prompt (rulesOf u)
+  prompt = one-length-prompt (u .identifier) (lengthOf u) (isDatagram u) (limitsOf u) some (datagram-length u) (datagram-first u)

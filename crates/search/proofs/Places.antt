@@ -5,17 +5,17 @@ use mathlib.Core.Bool.{true}
 use mathlib.Core.List.{List}
 use native.Mathlib.Omega.{arith}
 use lib.ListN.{length, take, drop, length-drop}
-use lib.Seq.{take-all}
+use lib.Seq.{take-all, length-take-le}
 use Rattle.setup.specs.Setup.{rulingOn, lengthOf}
 use Rattle.setup.specs.declared.Setup.{Setup}
 use Rattle.setup.specs.declared.Ruling.the-variants.{Accepted}
-use Rattle.scan.specs.Scan.{First, ends, finds, first, Stable}
+use Rattle.scan.specs.Scan.{First, ends, finds, first}
 use Rattle.scan.proofs.ScanLaws.{Parted, parted-at}
-use Rattle.scan.proofs.AmongLaws.{follows-stable}
-use Rattle.scan.proofs.FrontLaws.{held-fewer}
-use Rattle.search.specs.declared.Place.the-variants.{Whole, Open}
-use Rattle.search.specs.Search.{isDatagram, verdictOf, placeOf}
-use Rattle.search.proofs.Datagrams.{shaped, lawful}
+use Rattle.scan.proofs.FrontLaws.{hands-acceptable}
+use Rattle.scan.proofs.AmongLaws.{stable}
+use Rattle.search.specs.declared.Place.the-variants.{Complete, Undecided}
+use Rattle.search.specs.Search.{candidateOf, isDatagram, rulesOf, verdictOf, placeOf}
+use Rattle.search.proofs.Datagrams.{datagram-length, lawful}
 
 -- a part of a slice to its end
 pub to-end : (p : List ℕ) (i : ℕ) → take (length p - i) (drop i p) ≡ drop i p
@@ -27,53 +27,60 @@ part-of p i n =
     let e : i + n - i ≡ n = omega arith in
     ap (λ (m : ℕ). take m (drop i p)) e
 
--- the scan of p stops at a datagram of the setup, which begins at `at`
-pub record IsWhole (u : Setup) (p : List ℕ) (at : ℕ) : Type 0 where
-  pub scan : first (verdictOf u) p ≡ finds at (take (lengthOf u) (drop at p)) (drop (at + lengthOf u) p)
-  pub within : at + lengthOf u ≤ length p
-  pub good : isDatagram u (take (lengthOf u) (drop at p)) ≡ true
+-- the scan of p stops at a datagram of the setup, which begins at `at` and has that size
+pub record IsComplete (u : Setup) (p : List ℕ) (at size : ℕ) : Type 0 where
+  pub scan : first (verdictOf u) p ≡ finds at (take size (drop at p)) (drop (at + size) p)
+  pub within : at + size ≤ length p
+  pub good : isDatagram u (take size (drop at p)) ≡ true
 
--- the scan of p finds no datagram, and from `at` on p is undecided
-pub record IsOpen (u : Setup) (p : List ℕ) (at : ℕ) : Type 0 where
+-- the scan of p finds no datagram, and from `at` on p is undecided: fewer bytes than the longest datagram has
+pub record IsUndecided (u : Setup) (p : List ℕ) (at : ℕ) : Type 0 where
   pub scan : first (verdictOf u) p ≡ ends at (drop at p)
   pub within : at ≤ length p
-  pub short : length p < at + lengthOf u
+  pub short : length p < at + rulesOf u .greatest
+
+-- where all have one length, the size is the setup's
+pub complete-length : {u : Setup} {p : List ℕ} {at size : ℕ} → IsComplete u p at size → size ≡ lengthOf u
+complete-length {u} {p} {at} {size} k =
+    omega (arith, length-take-le size (drop at p) (omega (arith, k .within, length-drop at p)), datagram-length u (take size (drop at p)) (k .good))
 
 module _ (u : Setup) (a : rulingOn u ≡ Accepted) (p : List ℕ) (at : ℕ) where
-  stable : Stable (verdictOf u)
-  stable = follows-stable (verdictOf u) (isDatagram u) (lawful u a .follows)
+  abbrev PartedBy : First → Type 0
+  PartedBy f = Parted (verdictOf u) (stable (rulesOf u) (lawful u a)) p f
 
-  pub found-whole : placeOf (first (verdictOf u) p) ≡ Whole at → IsWhole u p at
-  found-whole e = by (first (verdictOf u) p) refl e
+  parted-by : {f : First} → first (verdictOf u) p ≡ f → PartedBy f
+  parted-by s = parted-at (verdictOf u) (stable (rulesOf u) (lawful u a)) p s
+
+  pub found-complete : {size : ℕ} → placeOf (first (verdictOf u) p) ≡ Complete at size → IsComplete u p at size
+  found-complete {size} e = by (first (verdictOf u) p) refl e
     where
-      by : (f : First) → first (verdictOf u) p ≡ f → placeOf f ≡ Whole at → IsWhole u p at
+      by : (f : First) → first (verdictOf u) p ≡ f → placeOf f ≡ Complete at size → IsComplete u p at size
       by (ends n h) s e = absurd (let z : _≡_ {A = ℕ} 0 1 = cc in omega arith)
       by (finds n d r) s e =
           let here : n ≡ at = cc in
-          let k : Parted (verdictOf u) stable p (finds n d r) = parted-at (verdictOf u) stable p s in
-          let h = lawful u a .follows .hands-acceptable (drop n p) (length d) (k .3) in
-          let good : isDatagram u d ≡ true = ap (isDatagram u) (sym (k .1)) ∙ h .1 in
-          let long : length d ≡ lengthOf u = shaped u a .long d good in
-          let same : take (lengthOf u) (drop at p) ≡ d = rw (← long, ← here) (k .1) in
-          let rest : drop (at + lengthOf u) p ≡ r = rw (← long, ← here) (k .2) in
+          let long : length d ≡ size = cc in
+          let k : PartedBy (finds n d r) = parted-by s in
+          let h = hands-acceptable (candidateOf u) (isDatagram u) (drop n p) (length d) (k .3) in
+          let same : take size (drop at p) ≡ d = rw (← long, ← here) (k .1) in
+          let rest : drop (at + size) p ≡ r = rw (← long, ← here) (k .2) in
           record {
             scan = s ∙ rw (here, same, rest);
             within = omega (arith, k .0, long, here);
-            good = ap (isDatagram u) same ∙ good;
+            good = ap (isDatagram u) (same ∙ sym (k .1)) ∙ h .2;
           }
 
-  pub found-open : placeOf (first (verdictOf u) p) ≡ Open at → IsOpen u p at
-  found-open e = by (first (verdictOf u) p) refl e
+  pub found-undecided : placeOf (first (verdictOf u) p) ≡ Undecided at → IsUndecided u p at
+  found-undecided e = by (first (verdictOf u) p) refl e
     where
-      by : (f : First) → first (verdictOf u) p ≡ f → placeOf f ≡ Open at → IsOpen u p at
+      by : (f : First) → first (verdictOf u) p ≡ f → placeOf f ≡ Undecided at → IsUndecided u p at
       by (finds n d r) s e = absurd (let z : _≡_ {A = ℕ} 0 1 = cc in omega arith)
       by (ends n h) s e =
           let here : n ≡ at = cc in
-          let k : Parted (verdictOf u) stable p (ends n h) = parted-at (verdictOf u) stable p s in
+          let k : PartedBy (ends n h) = parted-by s in
           let rest : drop at p ≡ h = rw (← here) (k .1) in
-          let few : length h < lengthOf u = held-fewer (u .identifier) (lengthOf u) (isDatagram u) (shaped u a) h (lawful u a .holds .held h (k .2)) in
+          let holds = lawful u a .holds in
           record {
             scan = s ∙ rw (here, rest);
             within = omega (arith, k .0, here);
-            short = omega (arith, k .0, here, few);
+            short = omega (arith, k .0, here, holds .shorter h (holds .undecided h (k .2)));
           }

@@ -1,30 +1,51 @@
 -- 01, The scan, of the datagrams of a setup.
-use Prim.Native.Nat.{ℕ}
+use Prim.Native.Nat.{ℕ, _^_}
 use mathlib.Core.Bool.{Bool, true, _&&_}
 use mathlib.Core.List.{List, [], _∷_}
 use lib.Dec.{ltb}
+use lib.ListN.{length}
 use Rattle.setup.specs.Setup.{lengthOf}
 use Rattle.setup.specs.declared.Setup.{Setup}
 use Rattle.wire.specs.Acceptable.{acceptable}
 use Rattle.scan.specs.Scan.{Verdict, First, ends, finds}
-use Rattle.scan.specs.Front.{front}
+use Rattle.scan.specs.Rules.{Limits, Rules, verdict}
+use Rattle.scan.specs.OneLength.{oneCandidate, heldRule}
 use Rattle.search.specs.declared.Place.{Place}
-use Rattle.search.specs.declared.Place.the-variants.{Whole, Open}
+use Rattle.search.specs.declared.Place.the-variants.{Complete, Undecided}
 
 -- every element is a byte
 unfoldable pub areBytes : List ℕ → Bool
 areBytes [] = true
 areBytes (b ∷ s) = ltb b 256 && areBytes s
 
+-- a datagram begins with the setup's identifier, and then has the setup's length
+abbrev pub candidateOf : Setup → ℕ → ℕ
+candidateOf u = oneCandidate (u .identifier) (lengthOf u)
+
 -- an acceptable datagram of a setup: bytes of its length with identifier, check and termination right
 unfoldable pub isDatagram : Setup → List ℕ → Bool
 isDatagram u d = areBytes d && acceptable u d
 
+-- the most bytes of a piece, which 11 refuses beyond, and of a session (10 and 12)
+abbrev pub limitsOf : Setup → Limits
+limitsOf u = record { piece = 4096; tooLong = 11; session = 2 ^ 34 }
+
+-- the rules of a setup, by which its sessions scan
+abbrev pub rulesOf : Setup → Rules
+rulesOf u =
+    record {
+      candidate = candidateOf u;
+      acceptable = isDatagram u;
+      mayHold = heldRule (u .identifier) (lengthOf u);
+      greatest = lengthOf u;
+      limits = limitsOf u;
+    }
+
 -- what is decided at the front of the undecided bytes
 abbrev pub verdictOf : Setup → List ℕ → Verdict
-verdictOf u = front (u .identifier) (lengthOf u) (isDatagram u)
+verdictOf u = verdict (rulesOf u)
 
--- where the scan up to its first datagram stops
+-- where the scan up to its first datagram stops: where that begins and how long it is, or from where on the bytes are undecided
 abbrev pub placeOf : First → Place
-placeOf (ends n h) = Open n
-placeOf (finds n d r) = Whole n
+placeOf (ends n h) = Undecided n
+placeOf (finds n d r) = Complete n (length d)

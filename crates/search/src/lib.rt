@@ -4,13 +4,14 @@ ghost use mathlib.Core.Path.{_≡_};
 ghost use Rattle.scan.specs.Scan.{first};
 ghost use Rattle.search.specs.Search.{verdictOf, placeOf};
 
-// Where a scan that stops at its first datagram ends: a datagram begins there, or the bytes from there on are undecided.
+// Where a scan that stops at its first datagram ends: where a complete one begins and how many bytes it has,
+// or from where on the bytes are undecided.
 pub enum Place {
-    Whole(usize),
-    Open(usize),
+    Complete(usize, usize),
+    Undecided(usize),
 }
 
-// The scan of bytes up to their first datagram: where that begins, or from where on the bytes are undecided (01, The scan).
+// The scan of bytes up to their first datagram (01, The scan).
 pub fn find(setup: Setup, bytes: &[u8]) -> Place
     ensures { λ r. ⌜ r ≡ placeOf (first (verdictOf setup) (now (bytes .entry))) ⌝ }
 {
@@ -20,14 +21,14 @@ pub fn find(setup: Setup, bytes: &[u8]) -> Place
     while i < bytes.len() {
         if bytes[i] == identifier {
             if bytes.len() - i < size {
-                return Place::Open(i);
+                return Place::Undecided(i);
             }
             let end = i + size;
             if wire::is_acceptable(setup, &bytes[i..end]) {
-                return Place::Whole(i);
+                return Place::Complete(i, size);
             }
         }
         i += 1;
     }
-    Place::Open(i)
+    Place::Undecided(i)
 }

@@ -9,7 +9,7 @@ use Rattle.setup.specs.declared.Setup.{Setup}
 use Rattle.setup.specs.declared.Ruling.{Ruling}
 use Rattle.setup.specs.declared.Ruling.the-variants.{Accepted, Refused}
 use Rattle.setup.proofs.Refusals.{judge-numbers, zeros-refused}
-use Rattle.scan.specs.Front.{heldRule}
+use Rattle.scan.specs.OneLength.{heldRule}
 use Rattle.session.specs.Session.{freshOf, openedBy, opening, isAccepted, allZero, isSound}
 use Rattle.session.proofs.AxisLaws.{none-right}
 use Rattle.session.proofs.Soundness.{facts-sound}

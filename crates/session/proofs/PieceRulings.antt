@@ -6,21 +6,27 @@ use native.Mathlib.Omega.{arith}
 use borrow.Author.Tests.{lt-ltb, le-ltb, ltb-false, not-false}
 use Rattle.setup.specs.declared.Ruling.the-variants.{Accepted, Refused}
 use Rattle.setup.proofs.Rules.{first-within, none-applies}
+use Rattle.search.specs.Search.{limitsOf}
 use Rattle.session.specs.declared.Session.{Session}
-use Rattle.session.specs.Session.{limits, isSound, pieceRules, pieceRuling}
+use Rattle.session.specs.Session.{isSound, pieceRules, pieceRuling}
 
 -- nothing refuses a piece of n bytes
 pub record Admitted (s : Session) (n : ℕ) : Type 0 where
   pub sound : isSound s ≡ true
-  pub piece : n ≤ limits .piece
-  pub session : s .fed + n ≤ limits .session
+  pub piece : n ≤ limitsOf (s .setup) .piece
+  pub session : s .fed + n ≤ limitsOf (s .setup) .session
 
 module _ (s : Session) (n : ℕ) where
   pub admitted : pieceRuling s n ≡ Accepted → Admitted s n
   unfolding pieceRuling
   admitted e =
       let k = none-applies (pieceRules s n) e in
-      record { sound = not-false (isSound s) (k .0); piece = ltb-false (limits .piece) n (k .1 .0); session = ltb-false (limits .session) (s .fed + n) (k .1 .1 .0) }
+      let l = limitsOf (s .setup) in
+      record {
+        sound = not-false (isSound s) (k .0);
+        piece = ltb-false (l .piece) n (k .1 .0);
+        session = ltb-false (l .session) (s .fed + n) (k .1 .1 .0);
+      }
 
   pub admits : Admitted s n → pieceRuling s n ≡ Accepted
   unfolding pieceRuling

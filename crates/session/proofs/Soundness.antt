@@ -2,7 +2,7 @@
 use mathlib.Core.Path.{_≡_, refl, sym, ap, _∙_}
 use mathlib.Core.Bool.{true, _&&_, _||_, and-assoc}
 use mathlib.Core.List.{List, [], _∷_}
-use Prim.Native.Nat.{ℕ, zero, suc, _+_, _*_, _^_, _≤_}
+use Prim.Native.Nat.{ℕ, zero, suc, _+_, _*_, _≤_}
 use native.Mathlib.Omega.{arith}
 use native.Mathlib.Nat.{mul-le-mul-right}
 use lib.Dec.{eqb, leb, ltb, eqb·suc-zero}
@@ -13,8 +13,9 @@ use Rattle.integers.proofs.Ranges.{and-split}
 use Rattle.setup.specs.Setup.{rulingOn, lengthOf}
 use Rattle.setup.specs.declared.Ruling.{Ruling}
 use Rattle.setup.specs.declared.Ruling.the-variants.{Accepted, Refused}
-use Rattle.scan.specs.Front.{heldRule}
+use Rattle.scan.specs.OneLength.{heldRule}
 use Rattle.scan.proofs.CallsLaws.{and-true}
+use Rattle.search.specs.Search.{limitsOf, rulesOf}
 use Rattle.session.specs.declared.Session.{Session}
 use Rattle.session.specs.Session.{isAccepted, setupRight, heldBytes, heldRight, allZero, restRight, sumRight, fedRight, axesRight, isSound}
 
@@ -22,10 +23,10 @@ use Rattle.session.specs.Session.{isAccepted, setupRight, heldBytes, hel
 pub record Facts (s : Session) : Type 0 where
   pub accepted : rulingOn (s .setup) ≡ Accepted
   pub within : s .count ≤ length (s .held)
-  pub held : heldRule (s .setup .identifier) (lengthOf (s .setup)) (heldBytes s) ≡ true
+  pub held : rulesOf (s .setup) .mayHold (heldBytes s) ≡ true
   pub rest : allZero (drop (s .count) (s .held)) ≡ true
   pub sum : lengthOf (s .setup) * s .history .datagrams .0 + s .passed + s .count ≡ s .fed
-  pub most : s .fed ≤ 2 ^ 34
+  pub most : s .fed ≤ limitsOf (s .setup) .session
   pub axes : axesRight (s .setup) (s .history .datagrams .0) (s .history .axes) ≡ true
 
 pub accepted-true : (j : Ruling) → isAccepted j ≡ true → j ≡ Accepted
@@ -47,7 +48,7 @@ sound-facts s e =
       held = h .1;
       rest = r .0;
       sum = eqb-true (lengthOf (s .setup) * s .history .datagrams .0 + s .passed + s .count) (s .fed) (t .0);
-      most = leb-true (s .fed) (2 ^ 34) (f .0);
+      most = leb-true (s .fed) (limitsOf (s .setup) .session) (f .0);
       axes = f .1;
     }
 
@@ -58,7 +59,7 @@ facts-sound s h =
     (and-true (and-true (le-leb (s .count) (length (s .held)) (h .within)) (h .held))
     (and-true (h .rest)
     (and-true (eq-eqb (lengthOf (s .setup) * s .history .datagrams .0 + s .passed + s .count) (s .fed) (h .sum))
-    (and-true (le-leb (s .fed) (2 ^ 34) (h .most)) (h .axes)))))
+    (and-true (le-leb (s .fed) (limitsOf (s .setup) .session) (h .most)) (h .axes)))))
 
 -- ---- what the tests of the code come to
 
@@ -81,10 +82,12 @@ held-rule identifier size (b ∷ bytes) (suc n) h =
     let k : n ≤ length bytes = omega arith in
     rw (length-take-le n bytes k, eqb·suc-zero n)
 
--- right counts are few, for a datagram is 18 bytes at least
-pub counts-few : (size datagrams passed held fed : ℕ) → 18 ≤ size → (eqb (size * datagrams + passed + held) fed && leb fed (2 ^ 34)) ≡ true → datagrams ≤ 2 ^ 34
-counts-few size datagrams passed held fed h e =
-    let p = and-split (eqb (size * datagrams + passed + held) fed) (leb fed (2 ^ 34)) e in
+-- right counts are few, for a datagram has some bytes
+pub counts-few :
+    (size datagrams passed held fed most : ℕ) → 1 ≤ size → (eqb (size * datagrams + passed + held) fed && leb fed most) ≡ true
+    → datagrams ≤ most
+counts-few size datagrams passed held fed most h e =
+    let p = and-split (eqb (size * datagrams + passed + held) fed) (leb fed most) e in
     let x : size * datagrams + passed + held ≡ fed = eqb-true (size * datagrams + passed + held) fed (p .0) in
-    let y : fed ≤ 2 ^ 34 = leb-true fed (2 ^ 34) (p .1) in
+    let y : fed ≤ most = leb-true fed most (p .1) in
     omega (arith, mul-le-mul-right datagrams h)

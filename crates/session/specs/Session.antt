@@ -13,12 +13,13 @@ use Rattle.motion.specs.Totals.{keeps}
 use Rattle.motion.specs.declared.Axis.{Axis}
 use Rattle.motion.specs.declared.GroupAxes.{GroupAxes}
 use Rattle.motion.specs.declared.Axes.{Axes}
-use Rattle.scan.specs.Calls.{Limits}
-use Rattle.scan.specs.Front.{heldRule}
+use Rattle.scan.specs.Rules as rules
+use Rattle.search.specs.Search.{limitsOf, rulesOf}
 use Rattle.session.specs.History.{noHistory}
 use Rattle.session.specs.declared.History.{History}
 use Rattle.session.specs.declared.Session.{Session}
 use Rattle.session.specs.declared.Opened.{Opened}
+use Rattle.session.specs.declared.Limits.{Limits}
 
 -- ---- a fresh session, and opening
 
@@ -44,9 +45,9 @@ opening u = record { answer = rulingOn u; session = openedBy (rulingOn u) u }
 
 -- ---- what feeding asks of a session: refusal 10, in 01's order
 
--- the most bytes of a piece (11), and of a session (10 and 12)
-abbrev pub limits : Limits
-limits = record { piece = 4096; session = 2 ^ 34 }
+-- limits as the code has them
+abbrev pub asStruct : rules.Limits → Limits
+asStruct l = record { piece = l .piece; «too_long» = l .tooLong; session = l .session }
 
 -- its setup would not be refused
 abbrev pub isAccepted : Ruling → Bool
@@ -61,7 +62,7 @@ abbrev pub heldBytes : Session → List ℕ
 heldBytes s = take (s .count) (s .held)
 
 abbrev pub heldRight : Session → Bool
-heldRight s = leb (s .count) (length (s .held)) && heldRule (s .setup .identifier) (lengthOf (s .setup)) (heldBytes s)
+heldRight s = leb (s .count) (length (s .held)) && rulesOf (s .setup) .mayHold (heldBytes s)
 
 -- they are zero beyond their count
 unfoldable pub allZero : List ℕ → Bool
@@ -71,12 +72,12 @@ allZero (b ∷ s) = eqb b 0 && allZero s
 abbrev pub restRight : Session → Bool
 restRight s = allZero (drop (s .count) (s .held))
 
--- L × datagrams + passed over + held is bytes fed, which don't exceed 2 ^ 34
+-- L × datagrams + passed over + held is bytes fed, which don't exceed the session's limit
 abbrev pub sumRight : Session → Bool
 sumRight s = eqb (lengthOf (s .setup) * s .history .datagrams .0 + s .passed + s .count) (s .fed)
 
 abbrev pub fedRight : Session → Bool
-fedRight s = leb (s .fed) (limits .session)
+fedRight s = leb (s .fed) (limitsOf (s .setup) .session)
 
 -- of an axis, after n datagrams: its total is at most n × 2 ^ 23 in size
 abbrev pub totalRight : ℕ → Axis → Bool
@@ -118,7 +119,8 @@ isSound s =
 
 abbrev pub pieceRules : Session → ℕ → List Rule
 pieceRules s n =
-    rule 10 (not (isSound s)) ∷ rule 11 (ltb (limits .piece) n) ∷ rule 12 (ltb (limits .session) (s .fed + n)) ∷ []
+    let l : rules.Limits = limitsOf (s .setup) in
+    rule 10 (not (isSound s)) ∷ rule (l .tooLong) (ltb (l .piece) n) ∷ rule 12 (ltb (l .session) (s .fed + n)) ∷ []
 
 unfoldable pub pieceRuling : Session → ℕ → Ruling
 pieceRuling s n = firstOf (pieceRules s n)

@@ -1,13 +1,14 @@
 // A session: opening one, and whether feeding turns it down (01, The scan; What is turned down, 4 to 10).
 ghost use mathlib.Core.Path.{_≡_};
 ghost use mathlib.Core.Bool.{_&&_};
-ghost use Prim.Native.Nat.{_+_, _*_, _^_, _≤_, min};
+ghost use Prim.Native.Nat.{_+_, _*_, _^_, _≤_, _<_, min};
 ghost use lib.Dec.{eqb, leb};
 ghost use lib.ListN.{length, take, drop};
 ghost use Rattle.setup.specs.Setup.{zeroSetup};
-ghost use Rattle.scan.specs.Front.{heldRule};
+ghost use Rattle.scan.specs.OneLength.{heldRule};
+ghost use Rattle.search.specs.Search.{limitsOf};
 ghost use Rattle.session.specs.History.{noAxes, noHistory, gapNext, advanced};
-ghost use Rattle.session.specs.Session.{padded, sessionWith, freshOf, opening, isAccepted, allZero, axisRight, groupRight, axesRight, isSound, pieceRuling};
+ghost use Rattle.session.specs.Session.{padded, sessionWith, freshOf, opening, asStruct, isAccepted, allZero, axisRight, groupRight, axesRight, isSound, pieceRuling};
 use motion::Axes;
 use motion::Axis;
 use motion::Datagrams;
@@ -16,8 +17,10 @@ use motion::GroupAxes;
 use setup::Ruling;
 use setup::Setup;
 
-// The most bytes of a piece, and of a session (01, What is turned down, 10 to 12).
+// The most bytes of a piece, the number that refuses a longer one, and the most bytes of a session, 2^34 (01, What is turned down, 10 to 12).
 const PIECE_LIMIT: usize = 4096;
+
+const TOO_LONG: u8 = 11;
 
 const SESSION_LIMIT: u64 = 17179869184;
 
@@ -209,6 +212,23 @@ pub fn open(setup: Setup) -> Opened
     }
 }
 
+// The limits of a setup's sessions: the most bytes of a piece, the number that refuses a longer one, the most bytes of a session.
+struct Limits {
+    piece: usize,
+    too_long: u8,
+    session: u64,
+}
+
+fn limits_of(setup: Setup) -> Limits
+    ensures { λ r. ⌜ r ≡ asStruct (limitsOf setup) ⌝ }
+{
+    Limits {
+        piece: PIECE_LIMIT,
+        too_long: TOO_LONG,
+        session: SESSION_LIMIT,
+    }
+}
+
 // Whether the bytes behind a place are all zero.
 fn zeros_behind(bytes: [u8; 64], place: usize) -> bool
     requires { ⌜ place ≤ 64 ⌝ }
@@ -235,23 +255,25 @@ fn held_right(identifier: u8, size: usize, held: [u8; 64], count: usize) -> bool
     ((count == 0) | ((held[0] == identifier) & (count < size))) & zeros
 }
 
-// Whether the byte sum is right and not above 2^34. Counts above that are turned down before they are multiplied.
-fn counts_right(size: u64, datagrams: u64, passed: u64, held: u64, fed: u64) -> bool
+// Whether the byte sum is right and not above the session's limit. Counts above that are turned down before they are multiplied.
+fn counts_right(setup: Setup, size: u64, datagrams: u64, passed: u64, held: u64, fed: u64) -> bool
     requires { ⌜ (18 ≤ size) × (size ≤ 65) × (held ≤ 64) ⌝ }
-    ensures { λ r. ⌜ r ≡ (eqb (size * datagrams + passed + held) fed && leb fed (2 ^ 34)) ⌝ }
+    ensures { λ r. ⌜ r ≡ (eqb (size * datagrams + passed + held) fed && leb fed (limitsOf setup .session)) ⌝ }
 {
-    if SESSION_LIMIT < datagrams {
+    let limits = limits_of(setup);
+    let most = limits.session;
+    if most < datagrams {
         return false;
     }
-    if SESSION_LIMIT < passed {
+    if most < passed {
         return false;
     }
-    (size * datagrams + passed + held == fed) & (fed <= SESSION_LIMIT)
+    (size * datagrams + passed + held == fed) & (fed <= most)
 }
 
 // Whether an axis is one that so many datagrams can leave.
 fn axis_right(kept: bool, datagrams: u64, axis: Axis) -> bool
-    requires { ⌜ datagrams ≤ 2 ^ 34 ⌝ }
+    requires { ⌜ datagrams * 2 ^ 23 < 2 ^ 64 ⌝ }
     ensures { λ r. ⌜ r ≡ axisRight kept datagrams axis ⌝ }
 {
     let begun = axis.begun;
@@ -266,7 +288,7 @@ fn axis_right(kept: bool, datagrams: u64, axis: Axis) -> bool
 
 // The same of the three axes of a group.
 fn group_right(kept: bool, datagrams: u64, group: GroupAxes) -> bool
-    requires { ⌜ datagrams ≤ 2 ^ 34 ⌝ }
+    requires { ⌜ datagrams * 2 ^ 23 < 2 ^ 64 ⌝ }
     ensures { λ r. ⌜ r ≡ groupRight kept datagrams group ⌝ }
 {
     let x = axis_right(kept, datagrams, group.x);
@@ -277,7 +299,7 @@ fn group_right(kept: bool, datagrams: u64, group: GroupAxes) -> bool
 
 // And of the nine.
 fn axes_right(setup: Setup, datagrams: u64, axes: Axes) -> bool
-    requires { ⌜ datagrams ≤ 2 ^ 34 ⌝ }
+    requires { ⌜ datagrams * 2 ^ 23 < 2 ^ 64 ⌝ }
     ensures { λ r. ⌜ r ≡ axesRight setup datagrams axes ⌝ }
 {
     let kept = motion::kept_groups(setup);
@@ -306,6 +328,7 @@ pub fn is_sound(session: Session) -> bool
         return false;
     }
     if !counts_right(
+        setup,
         size as u64,
         datagrams,
         session.passed,
@@ -324,10 +347,12 @@ pub fn rule_on_piece(session: Session, length: usize) -> Ruling
     if !is_sound(session) {
         return Ruling::Refused(10);
     }
-    if PIECE_LIMIT < length {
-        return Ruling::Refused(11);
+    let setup = session.setup;
+    let limits = limits_of(setup);
+    if limits.piece < length {
+        return Ruling::Refused(limits.too_long);
     }
-    if SESSION_LIMIT < session.fed + (length as u64) {
+    if limits.session < session.fed + (length as u64) {
         return Ruling::Refused(12);
     }
     Ruling::Accepted

@@ -1,37 +1,25 @@
 -- Laws of the layouts: 01's byte counts, lengths from 18 to 65, and every part before the check.
 use Prim.Native.Nat.{ℕ, _+_, _≤_}
 use native.Mathlib.Omega.{arith}
-use mathlib.Core.Bool.{Bool, true, false, _&&_, _||_, cond}
-use mathlib.Core.List.{List, [], _∷_}
-use mathlib.Core.Path.{_≡_, refl, sym, ap, subst, _∙_}
-use lib.Dec.{eqb, ltb, leb}
-use lib.ListN.{getD}
-use borrow.Author.Tests.{eqb-true, lt-ltb, leb-true}
-use Rattle.integers.proofs.Ranges.{and-split}
-use Rattle.setup.specs.Layout.{Part, identifier, gyro, accelerometer, inclinometer, gyroTemperatures, accelerometerTemperatures, inclinometerTemperatures, aux, counter, latency, place, size, bytes, carries, offset, layout, Row, table, placed, layoutFrom, foundFrom, lookUp, partsAt, layoutOf}
-use Rattle.setup.specs.declared.Layout.{Layout}
-use Rattle.setup.specs.declared.Found.the-variants.{Listed, Unlisted}
+use mathlib.Core.Bool.{Bool, true, false, _||_, cond}
+use mathlib.Core.List.{List, [], _∷_, _++_}
+use mathlib.Core.Path.{_≡_, refl, sym, ap, _∙_}
+use lib.Dec.{eqb, ltb}
+use lib.ListN.{getD, length}
+use borrow.Author.Tests.{eqb-true, lt-ltb}
+use Rattle.crc.specs.Check.{stim300}
+use Rattle.setup.specs.Layout.{Part, identifier, gyro, accelerometer, inclinometer, gyroTemperatures, accelerometerTemperatures, inclinometerTemperatures, aux, counter, latency, size, bytes, only, groupParts, temperatureParts, partsOf, Layout, layoutOf, lengthIn, Entry, table, carrying, place, carries, offset, placed}
+use Rattle.setup.specs.declared.Row.{Row}
+use Rattle.setup.proofs.Rows.{every-row}
 
--- the parts of each row add up to the bytes before the check that 01 gives it
-pub every-row : (Row → Type 0) → List Row → Type 0
-every-row P [] = Unit {0}
-every-row P (r ∷ rs) = P r × every-row P rs
+-- the parts of each line of the table add up to the bytes before the check that 01 gives it
+abbrev EachEntry : (Entry → Type 0) → List Entry → Type 0
+EachEntry P [] = Unit {0}
+EachEntry P (e ∷ es) = P e × EachEntry P es
 
-abbrev AddsUp : Row → Type 0
-AddsUp r = bytes (layout (r .carries)) ≡ r .before
-
-pub table-adds-up : every-row AddsUp table
-unfolding every-row
+pub table-adds-up : EachEntry (λ e. bytes (partsOf (carrying (e .carries))) ≡ e .before) table
+unfolding partsOf
 table-adds-up = (refl, (refl, (refl, (refl, (refl, (refl, (refl, (refl, (refl, (refl, (refl, (refl, (refl, (refl, (refl, (refl, tt))))))))))))))))
-
--- a listed layout is that of its identifier's parts
-from-parts : (ps : List Part) {l : Layout} → foundFrom ps ≡ Listed l → l ≡ layoutFrom ps
-from-parts [] e = let z : _≡_ {A = ℕ} 0 1 = cc in absurd (omega arith)
-from-parts (p ∷ ps) e = cc
-
-pub listed-parts : (i : ℕ) {l : Layout} → layoutOf i ≡ Listed l → l ≡ layoutFrom (partsAt i)
-unfolding layoutOf
-listed-parts i e = from-parts (partsAt i) e
 
 -- a carried part ends at or before the end of the parts
 within-by : (b r : Bool) (n m k o : ℕ) → (b || r) ≡ true → (b ≡ true → n ≤ m) → (r ≡ true → o + n ≤ k) → cond b 0 (m + o) + n ≤ m + k
@@ -61,86 +49,44 @@ same-part p q e = sym (numbered p) ∙ ap (λ n. getD inOrder n identifier) e �
 same-size : (p q : Part) → eqb (place p) (place q) ≡ true → size p ≤ size q
 same-size p q e = let s : size p ≡ size q = ap size (same-part p q (eqb-true (place p) (place q) e)) in omega arith
 
-pub part-within : (ps : List Part) (p : Part) → carries ps p ≡ true → offset ps p + size p ≤ bytes ps
+part-within : (ps : List Part) (p : Part) → carries ps p ≡ true → offset ps p + size p ≤ bytes ps
 part-within [] p e = let z : _≡_ {A = ℕ} 0 1 = cc in absurd (omega arith)
 part-within (q ∷ qs) p e =
     within-by (eqb (place p) (place q)) (carries qs p) (size p) (size q) (bytes qs) (offset qs p) e (same-size p q) (part-within qs p)
 
--- 14 to 59 bytes stand before the check, by one test over the table
-abbrev Short : List Part → Bool
-Short ps = leb 14 (bytes ps) && leb (bytes ps) 59
+-- 14 to 59 bytes stand before the check
+abbrev Short : Row → Type 0
+Short r = (14 ≤ bytes (partsOf r)) × (bytes (partsOf r) ≤ 59)
 
-abbrev every : List Row → Bool
-every [] = true
-every (r ∷ rs) = Short (layout (r .carries)) && every rs
+pub before-range : (r : Row) → (14 ≤ bytes (partsOf r)) × (bytes (partsOf r) ≤ 59)
+unfolding partsOf
+before-range = every-row Short (omega arith)
 
-abbrev InRange : List Part → Type 0
-InRange [] = Unit {0}
-InRange (p ∷ ps) = Short (p ∷ ps) ≡ true
+-- the length is theirs, 4 for the check and 2 for the ending
+pub length-parts : (r : Row) (t : Bool) → lengthIn (layoutOf r t) ≡ bytes (partsOf r) + 4 + cond t 2 0
+unfolding stim300
+length-parts r true = refl
+length-parts r false = refl
 
-found-short : (rs : List Row) → every rs ≡ true → (i : ℕ) → InRange (lookUp rs i)
-found-short [] e i = tt
-found-short (r ∷ rs) e i = by (eqb i (r .identifier)) (both .0) (found-short rs (both .1) i)
-  where
-    both : (Short (layout (r .carries)) ≡ true) × (every rs ≡ true)
-    both = and-split (Short (layout (r .carries))) (every rs) e
-
-    by : (b : Bool) → Short (layout (r .carries)) ≡ true → InRange (lookUp rs i) → InRange (cond b (layout (r .carries)) (lookUp rs i))
-    by true h k = h
-    by false h k = k
-
-range-from : (ps : List Part) {l : Layout} → foundFrom ps ≡ Listed l → InRange ps → (14 ≤ l .before) × (l .before ≤ 59)
-range-from [] e h = let z : _≡_ {A = ℕ} 0 1 = cc in absurd (omega arith)
-range-from (p ∷ ps) {l} e h =
-    let ends = and-split (leb 14 (bytes (p ∷ ps))) (leb (bytes (p ∷ ps)) 59) h in
-    let low : 14 ≤ bytes (p ∷ ps) = leb-true 14 (bytes (p ∷ ps)) (ends .0) in
-    let high : bytes (p ∷ ps) ≤ 59 = leb-true (bytes (p ∷ ps)) 59 (ends .1) in
-    let b : l .before ≡ bytes (p ∷ ps) = ap (λ (k : Layout). k .before) (from-parts (p ∷ ps) e) in
-    omega arith
-
-pub before-range : (i : ℕ) {l : Layout} → layoutOf i ≡ Listed l → (14 ≤ l .before) × (l .before ≤ 59)
-unfolding layoutOf partsAt
-before-range i e = range-from (partsAt i) e (found-short table refl i)
+pub length-range : (r : Row) (t : Bool) → (18 ≤ lengthIn (layoutOf r t)) × (lengthIn (layoutOf r t) ≤ 65)
+length-range r true = omega (arith, length-parts r true, before-range r)
+length-range r false = omega (arith, length-parts r false, before-range r)
 
 -- every part that is carried ends before the check
-pub part-before-check : (i : ℕ) {l : Layout} → layoutOf i ≡ Listed l → (p : Part) → carries (partsAt i) p ≡ true → placed (partsAt i) p + size p ≤ l .before
-part-before-check i {l} e p c =
-    let n : l .before ≡ bytes (partsAt i) = ap (λ (k : Layout). k .before) (listed-parts i e) in
-    let w : offset (partsAt i) p + size p ≤ bytes (partsAt i) = part-within (partsAt i) p c in
-    let a : placed (partsAt i) p ≡ offset (partsAt i) p = ap (λ (t : Bool). cond t (offset (partsAt i) p) 0) c in
+pub part-before-check : (r : Row) (p : Part) → carries (partsOf r) p ≡ true → placed (partsOf r) p + size p ≤ bytes (partsOf r)
+part-before-check r p c =
+    let w : offset (partsOf r) p + size p ≤ bytes (partsOf r) = part-within (partsOf r) p c in
+    let a : placed (partsOf r) p ≡ offset (partsOf r) p = ap (λ (t : Bool). cond t (offset (partsOf r) p) 0) c in
     omega arith
 
--- the parts of a listed identifier begin with the identifier, so that no other part begins at 0
-abbrev Headed : List Part → Type 0
-Headed [] = Unit {0}
-Headed (p ∷ ps) = p ≡ identifier
-
-headed : (rs : List Row) (i : ℕ) → Headed (lookUp rs i)
-headed [] i = tt
-headed (r ∷ rs) i = by (eqb i (r .identifier)) (headed rs i)
-  where
-    by : (b : Bool) → Headed (lookUp rs i) → Headed (cond b (layout (r .carries)) (lookUp rs i))
-    by true h = refl
-    by false h = h
-
+-- a part behind the identifier is carried just where its place isn't 0
 above : (c : Bool) (n : ℕ) → ltb 0 (cond c (1 + n) 0) ≡ c
 above true n = lt-ltb 0 (1 + n) (omega arith)
 above false n = refl
 
-behind : (ps : List Part) (p : Part) → eqb (place p) 0 ≡ false → Headed ps → ltb 0 (placed ps p) ≡ carries ps p
-behind [] p e h = refl
-behind (q ∷ qs) p e h =
-    subst (λ (x : Part). ltb 0 (placed (x ∷ qs) p) ≡ carries (x ∷ qs) p) (sym h) (rw (e) (above (carries qs p) (offset qs p)))
+behind : (ps : List Part) (p : Part) → eqb (place p) 0 ≡ false → ltb 0 (placed (identifier ∷ ps) p) ≡ carries (identifier ∷ ps) p
+behind ps p e = rw e (above (carries ps p) (offset ps p))
 
--- a part behind the identifier is carried just where its place isn't 0
-pub carried-place : (i : ℕ) (p : Part) → eqb (place p) 0 ≡ false → ltb 0 (placed (partsAt i) p) ≡ carries (partsAt i) p
-unfolding partsAt
-carried-place i p e = behind (partsAt i) p e (headed table i)
-
-no-parts : (ps : List Part) → foundFrom ps ≡ Unlisted → ps ≡ []
-no-parts [] e = refl
-no-parts (p ∷ ps) e = let z : _≡_ {A = ℕ} 0 1 = cc in absurd (omega arith)
-
-pub unlisted-parts : (i : ℕ) → layoutOf i ≡ Unlisted → partsAt i ≡ []
-unfolding layoutOf
-unlisted-parts i e = no-parts (partsAt i) e
+pub carried-place : (r : Row) (p : Part) → eqb (place p) 0 ≡ false → ltb 0 (placed (partsOf r) p) ≡ carries (partsOf r) p
+unfolding partsOf
+carried-place r p e = behind (groupParts r ++ temperatureParts r ++ only (r .aux) (aux ∷ []) ++ counter ∷ latency ∷ []) p e

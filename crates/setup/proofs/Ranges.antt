@@ -1,33 +1,12 @@
--- The table by the four ranges of its identifiers, whose low four bits name the parts that are carried.
-use Prim.Native.Nat.{ℕ, zero, suc, _+_, _*_, _/_, _%_, _<_, _≤_}
-use mathlib.Core.Bool.{cond, _&&_}
+-- The table by the ranges of its identifiers, as the code has it.
+use Prim.Native.Nat.{ℕ, zero, suc, _+_, _-_, _<_, _≤_}
+use mathlib.Core.Bool.{Bool, true, false}
 use mathlib.Core.Path.{_≡_, refl, subst}
 use native.Mathlib.Omega.{arith}
 use native.Mathlib.Decide.{decLe}
 use borrow.Author.Tests.{ne-eqb}
-use lib.Dec.{eqb}
-use Rattle.setup.specs.Layout.{partsAt, layoutOf}
-use Rattle.setup.specs.declared.Layout.{Layout}
-use Rattle.setup.specs.declared.Found.the-variants.{Listed, Unlisted}
-
--- the layout that the low four bits of an identifier name
-abbrev pub byBits : ℕ → Layout
-byBits id =
-    let groupsEnd : ℕ = 11 + 10 * (id % 2) + 10 * (id / 2 % 2) in
-    let auxAt : ℕ = groupsEnd + cond (eqb (id / 4 % 2) 1) (7 + 7 * (id % 2) + 7 * (id / 2 % 2)) 0 in
-    let counterAt : ℕ = auxAt + cond (eqb (id / 8 % 2) 1) 4 0 in
-    record {
-      gyro = 1;
-      accelerometer = 11 * (id % 2);
-      inclinometer = cond (eqb (id / 2 % 2) 1) (11 + 10 * (id % 2)) 0;
-      «gyro_temperatures» = cond (eqb (id / 4 % 2) 1) groupsEnd 0;
-      «accelerometer_temperatures» = cond (eqb (id / 4 % 2) 1 && eqb (id % 2) 1) (groupsEnd + 7) 0;
-      «inclinometer_temperatures» = cond (eqb (id / 4 % 2) 1 && eqb (id / 2 % 2) 1) (groupsEnd + 7 + 7 * (id % 2)) 0;
-      aux = cond (eqb (id / 8 % 2) 1) auxAt 0;
-      counter = counterAt;
-      latency = counterAt + 1;
-      before = counterAt + 3;
-    }
+use Rattle.setup.specs.Layout.{rowWith, rowAt}
+use Rattle.setup.specs.declared.Listing.the-variants.{Listed, Unlisted}
 
 -- P at each of the n numbers from lo on
 abbrev All : (ℕ → Type 0) → ℕ → ℕ → Type 0
@@ -45,33 +24,34 @@ between : (P : ℕ → Type 0) (lo n : ℕ) → All P lo n → (i : ℕ) → lo 
 between P lo zero h i a b = absurd (omega arith)
 between P lo (suc n) h i a b = split P lo i a (h .0) (λ k. between P (suc lo) n (h .1) i k (omega arith)) (decLe i lo)
 
-abbrev Named : ℕ → Type 0
-Named id = layoutOf id ≡ Listed (byBits id)
+-- the row of an identifier by its place in a range that begins at, or stands for one that would begin at, `base`
+abbrev InPlace : ℕ → Bool → Bool → ℕ → Type 0
+InPlace base warm voltage id = rowAt id ≡ Listed (rowWith (id - base) warm voltage)
 
-pub groups : (id : ℕ) → 0x90 ≤ id → id < 0x95 → layoutOf id ≡ Listed (byBits id)
-unfolding layoutOf partsAt
-groups = between Named 0x90 5 (refl, (refl, (refl, (refl, (refl, tt)))))
+pub groups : (id : ℕ) → 0x90 ≤ id → id < 0x94 → InPlace 0x90 false false id
+unfolding rowAt
+groups = between (InPlace 0x90 false false) 0x90 4 (refl, (refl, (refl, (refl, tt))))
 
-pub groups-aux : (id : ℕ) → 0x98 ≤ id → id < 0x9D → layoutOf id ≡ Listed (byBits id)
-unfolding layoutOf partsAt
-groups-aux = between Named 0x98 5 (refl, (refl, (refl, (refl, (refl, tt)))))
+pub groups-aux : (id : ℕ) → 0x98 ≤ id → id < 0x9C → InPlace 0x98 false true id
+unfolding rowAt
+groups-aux = between (InPlace 0x98 false true) 0x98 4 (refl, (refl, (refl, (refl, tt))))
 
-pub warm : (id : ℕ) → 0xA5 ≤ id → id < 0xA8 → layoutOf id ≡ Listed (byBits id)
-unfolding layoutOf partsAt
-warm = between Named 0xA5 3 (refl, (refl, (refl, tt)))
+pub warm : (id : ℕ) → 0xA5 ≤ id → id < 0xA8 → InPlace 0xA4 true false id
+unfolding rowAt
+warm = between (InPlace 0xA4 true false) 0xA5 3 (refl, (refl, (refl, tt)))
 
-pub warm-aux : (id : ℕ) → 0xAD ≤ id → id < 0xB0 → layoutOf id ≡ Listed (byBits id)
-unfolding layoutOf partsAt
-warm-aux = between Named 0xAD 3 (refl, (refl, (refl, tt)))
+pub warm-aux : (id : ℕ) → 0xAD ≤ id → id < 0xB0 → InPlace 0xAC true true id
+unfolding rowAt
+warm-aux = between (InPlace 0xAC true true) 0xAD 3 (refl, (refl, (refl, tt)))
 
--- an identifier outside the four ranges is none of the table's
+-- an identifier outside the ranges 0x90 to 0x94, 0x98 to 0x9C, 0xA5 to 0xA7 and 0xAD to 0xAF is none of the table's
 module _ (id : ℕ) (a : 0x90 ≤ id → id < 0x95 → ⊥) (b : 0x98 ≤ id → id < 0x9D → ⊥) (c : 0xA5 ≤ id → id < 0xA8 → ⊥) (d : 0xAD ≤ id → id < 0xB0 → ⊥) where
   other : (lo hi k : ℕ) → (lo ≤ id → id < hi → ⊥) → lo ≤ k → k < hi → id ≡ k → ⊥
   other lo hi k f p q e = f (omega arith) (omega arith)
 
-  pub outside : layoutOf id ≡ Unlisted
-  unfolding layoutOf partsAt
-  outside =
+  pub unlisted : rowAt id ≡ Unlisted
+  unfolding rowAt
+  unlisted =
       simp (
         ne-eqb id 0x90 (other 0x90 0x95 0x90 a (omega arith) (omega arith)),
         ne-eqb id 0x91 (other 0x90 0x95 0x91 a (omega arith) (omega arith)),
@@ -90,20 +70,3 @@ module _ (id : ℕ) (a : 0x90 ≤ id → id < 0x95 → ⊥) (b : 0x98 ≤ id →
         ne-eqb id 0xAE (other 0xAD 0xB0 0xAE d (omega arith) (omega arith)),
         ne-eqb id 0xAF (other 0xAD 0xB0 0xAF d (omega arith) (omega arith)),
       )
-
--- nor is one before, between or behind the ranges
-module _ (id : ℕ) where
-  pub before-all : id < 0x90 → layoutOf id ≡ Unlisted
-  before-all h = outside id (λ p q. omega arith) (λ p q. omega arith) (λ p q. omega arith) (λ p q. omega arith)
-
-  pub before-aux : 0x95 ≤ id → id < 0x98 → layoutOf id ≡ Unlisted
-  before-aux h k = outside id (λ p q. omega arith) (λ p q. omega arith) (λ p q. omega arith) (λ p q. omega arith)
-
-  pub before-warm : 0x9D ≤ id → id < 0xA5 → layoutOf id ≡ Unlisted
-  before-warm h k = outside id (λ p q. omega arith) (λ p q. omega arith) (λ p q. omega arith) (λ p q. omega arith)
-
-  pub before-warm-aux : 0xA8 ≤ id → id < 0xAD → layoutOf id ≡ Unlisted
-  before-warm-aux h k = outside id (λ p q. omega arith) (λ p q. omega arith) (λ p q. omega arith) (λ p q. omega arith)
-
-  pub behind-all : 0xB0 ≤ id → layoutOf id ≡ Unlisted
-  behind-all h = outside id (λ p q. omega arith) (λ p q. omega arith) (λ p q. omega arith) (λ p q. omega arith)

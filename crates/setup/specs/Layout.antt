@@ -1,12 +1,14 @@
--- 01, Layout by identifier (001, 5.5.6 and Table 5-22). A layout is the list of its parts in 01's order; where a part begins and how long a
--- datagram is are functions of that list.
-use Prim.Native.Nat.{ℕ, _+_, _*_}
-use mathlib.Core.Bool.{Bool, false, _||_, cond}
+-- 01, Layout by identifier (001, 5.5.6 and Table 5-22). A layout is a row of data: the list of its parts in 01's order, the check, the ending;
+-- where a part begins and how long a datagram is are functions of it.
+use Prim.Native.Nat.{ℕ, _+_, _/_, _%_}
+use mathlib.Core.Bool.{Bool, true, false, _||_, cond}
 use mathlib.Core.List.{List, [], _∷_, _++_}
 use lib.Dec.{eqb}
-use Rattle.setup.specs.declared.Layout.{Layout}
-use Rattle.setup.specs.declared.Found.{Found}
-use Rattle.setup.specs.declared.Found.the-variants.{Listed, Unlisted}
+use lib.ListN.{length}
+use Rattle.crc.specs.Check.{Parameters, stim300}
+use Rattle.setup.specs.declared.Row.{Row}
+use Rattle.setup.specs.declared.Listing.{Listing}
+use Rattle.setup.specs.declared.Listing.the-variants.{Listed, Unlisted}
 
 -- the parts before the check
 pub data Part : Type 0 where
@@ -37,66 +39,105 @@ abbrev pub bytes : List Part → ℕ
 bytes [] = 0
 bytes (p ∷ ps) = size p + bytes ps
 
+-- parts that stand in a datagram only if they are carried
+abbrev pub only : Bool → List Part → List Part
+only carried ps = cond carried ps []
+
+-- the groups of a row, and the temperatures of each carried group in that order
+abbrev pub groupParts : Row → List Part
+groupParts r = gyro ∷ only (r .acceleration) (accelerometer ∷ []) ++ only (r .inclination) (inclinometer ∷ [])
+
+abbrev pub temperatureParts : Row → List Part
+temperatureParts r =
+    only (r .temperatures) (
+    gyroTemperatures ∷ only (r .acceleration) (accelerometerTemperatures ∷ []) ++ only (r .inclination) (inclinometerTemperatures ∷ [])
+    )
+
+-- the parts of a row in order; the check follows
+unfoldable pub partsOf : Row → List Part
+partsOf r = identifier ∷ groupParts r ++ temperatureParts r ++ only (r .aux) (aux ∷ []) ++ counter ∷ latency ∷ []
+
+-- a layout: the parts, the parameters of the check behind them, and the bytes of the ending behind that
+pub record Layout : Type 0 where
+  pub parts : List Part
+  pub check : Parameters
+  pub ending : List ℕ
+
+-- with termination 1, the bytes 0x0D 0x0A
+abbrev pub layoutOf : Row → Bool → Layout
+layoutOf r terminated = record { parts = partsOf r; check = stim300; ending = cond terminated (0x0D ∷ 0x0A ∷ []) [] }
+
+-- the bytes of the check
+abbrev pub checkBytes : Parameters → ℕ
+checkBytes c = c .width / 8
+
+-- the length L
+abbrev pub lengthIn : Layout → ℕ
+lengthIn l = bytes (l .parts) + checkBytes (l .check) + length (l .ending)
+
 -- what an identifier says that a datagram carries: R rate, A acceleration, I inclination, T temperature, U AUX
 pub data Letter : Type 0 where
   R A I T U : Letter
 
--- the temperature set of a carried group
-abbrev pub temperaturesOf : Letter → List Part
-temperaturesOf R = gyroTemperatures ∷ []
-temperaturesOf A = accelerometerTemperatures ∷ []
-temperaturesOf I = inclinometerTemperatures ∷ []
-temperaturesOf T = []
-temperaturesOf U = []
+abbrev pub letterNumber : Letter → ℕ
+letterNumber R = 0
+letterNumber A = 1
+letterNumber I = 2
+letterNumber T = 3
+letterNumber U = 4
 
-abbrev pub temperatureSets : List Letter → List Part
-temperatureSets [] = []
-temperatureSets (c ∷ cs) = temperaturesOf c ++ temperatureSets cs
+abbrev pub has : List Letter → Letter → Bool
+has [] c = false
+has (d ∷ ds) c = eqb (letterNumber c) (letterNumber d) || has ds c
 
--- the parts that a letter stands for, in a datagram that carries `all`
-abbrev pub partsOf : List Letter → Letter → List Part
-partsOf all R = gyro ∷ []
-partsOf all A = accelerometer ∷ []
-partsOf all I = inclinometer ∷ []
-partsOf all T = temperatureSets all
-partsOf all U = aux ∷ []
+-- a row by its letters; R is in each
+abbrev pub carrying : List Letter → Row
+carrying cs = record { acceleration = has cs A; inclination = has cs I; temperatures = has cs T; aux = has cs U }
 
-abbrev pub carriedParts : List Letter → List Letter → List Part
-carriedParts all [] = []
-carriedParts all (c ∷ cs) = partsOf all c ++ carriedParts all cs
-
--- the identifier, what is carried, the counter, the latency; the check follows
-abbrev pub layout : List Letter → List Part
-layout all = identifier ∷ carriedParts all all ++ counter ∷ latency ∷ []
-
--- a row of 01's table: the identifier, what it carries, the bytes before the check
-pub record Row : Type 0 where
+-- a line of 01's table: the identifier, what it carries, the bytes before the check
+pub record Entry : Type 0 where
   pub identifier : ℕ
   pub carries : List Letter
   pub before : ℕ
 
-abbrev pub row : ℕ → List Letter → ℕ → Row
-row i cs n = record { identifier = i; carries = cs; before = n }
+abbrev pub entry : ℕ → List Letter → ℕ → Entry
+entry i cs n = record { identifier = i; carries = cs; before = n }
 
-abbrev pub table : List Row
+abbrev pub table : List Entry
 table =
-    row 0x90 (R ∷ []) 14 ∷
-    row 0x91 (R ∷ A ∷ []) 24 ∷
-    row 0x92 (R ∷ I ∷ []) 24 ∷
-    row 0x93 (R ∷ A ∷ I ∷ []) 34 ∷
-    row 0x94 (R ∷ T ∷ []) 21 ∷
-    row 0xA5 (R ∷ A ∷ T ∷ []) 38 ∷
-    row 0xA6 (R ∷ I ∷ T ∷ []) 38 ∷
-    row 0xA7 (R ∷ A ∷ I ∷ T ∷ []) 55 ∷
-    row 0x98 (R ∷ U ∷ []) 18 ∷
-    row 0x99 (R ∷ A ∷ U ∷ []) 28 ∷
-    row 0x9A (R ∷ I ∷ U ∷ []) 28 ∷
-    row 0x9B (R ∷ A ∷ I ∷ U ∷ []) 38 ∷
-    row 0x9C (R ∷ T ∷ U ∷ []) 25 ∷
-    row 0xAD (R ∷ A ∷ T ∷ U ∷ []) 42 ∷
-    row 0xAE (R ∷ I ∷ T ∷ U ∷ []) 42 ∷
-    row 0xAF (R ∷ A ∷ I ∷ T ∷ U ∷ []) 59 ∷
+    entry 0x90 (R ∷ []) 14 ∷
+    entry 0x91 (R ∷ A ∷ []) 24 ∷
+    entry 0x92 (R ∷ I ∷ []) 24 ∷
+    entry 0x93 (R ∷ A ∷ I ∷ []) 34 ∷
+    entry 0x94 (R ∷ T ∷ []) 21 ∷
+    entry 0xA5 (R ∷ A ∷ T ∷ []) 38 ∷
+    entry 0xA6 (R ∷ I ∷ T ∷ []) 38 ∷
+    entry 0xA7 (R ∷ A ∷ I ∷ T ∷ []) 55 ∷
+    entry 0x98 (R ∷ U ∷ []) 18 ∷
+    entry 0x99 (R ∷ A ∷ U ∷ []) 28 ∷
+    entry 0x9A (R ∷ I ∷ U ∷ []) 28 ∷
+    entry 0x9B (R ∷ A ∷ I ∷ U ∷ []) 38 ∷
+    entry 0x9C (R ∷ T ∷ U ∷ []) 25 ∷
+    entry 0xAD (R ∷ A ∷ T ∷ U ∷ []) 42 ∷
+    entry 0xAE (R ∷ I ∷ T ∷ U ∷ []) 42 ∷
+    entry 0xAF (R ∷ A ∷ I ∷ T ∷ U ∷ []) 59 ∷
     []
+
+-- what the table says of an identifier
+abbrev pub rowIn : List Entry → ℕ → Listing
+rowIn [] i = Unlisted
+rowIn (e ∷ es) i = cond (eqb i (e .identifier)) (Listed (carrying (e .carries))) (rowIn es i)
+
+unfoldable pub rowAt : ℕ → Listing
+rowAt i = rowIn table i
+
+-- the parts that the table gives an identifier, none where it isn't in the table
+abbrev pub partsIn : Listing → List Part
+partsIn (Listed r) = partsOf r
+partsIn Unlisted = []
+
+unfoldable pub partsAt : ℕ → List Part
+partsAt i = partsIn (rowIn table i)
 
 -- a part's number in 01's order, by which two parts are told apart
 abbrev pub place : Part → ℕ
@@ -124,42 +165,15 @@ offset (q ∷ qs) p = cond (eqb (place p) (place q)) 0 (size q + offset qs p)
 abbrev pub placed : List Part → Part → ℕ
 placed ps p = cond (carries ps p) (offset ps p) 0
 
--- a layout as the code has it: where each part behind the identifier begins, and the bytes before the check
-abbrev pub layoutFrom : List Part → Layout
-layoutFrom ps =
-    record {
-      gyro = placed ps gyro;
-      accelerometer = placed ps accelerometer;
-      inclinometer = placed ps inclinometer;
-      «gyro_temperatures» = placed ps gyroTemperatures;
-      «accelerometer_temperatures» = placed ps accelerometerTemperatures;
-      «inclinometer_temperatures» = placed ps inclinometerTemperatures;
-      aux = placed ps aux;
-      counter = placed ps counter;
-      latency = placed ps latency;
-      before = bytes ps;
-    }
-
--- the parts that the table gives an identifier, none where it isn't in the table
-abbrev pub lookUp : List Row → ℕ → List Part
-lookUp [] i = []
-lookUp (r ∷ rs) i = cond (eqb i (r .identifier)) (layout (r .carries)) (lookUp rs i)
-
-unfoldable pub partsAt : ℕ → List Part
-partsAt i = lookUp table i
-
-abbrev pub foundFrom : List Part → Found
-foundFrom [] = Unlisted
-foundFrom (p ∷ ps) = Listed (layoutFrom (p ∷ ps))
-
-unfoldable pub layoutOf : ℕ → Found
-layoutOf i = foundFrom (partsAt i)
+-- the groups of a row: gyro, accelerometer, inclinometer
+abbrev pub groupsOf : Row → List Bool
+groupsOf r = true ∷ r .acceleration ∷ r .inclination ∷ []
 
 -- which of the groups gyro, accelerometer and inclinometer an identifier carries
 unfoldable pub groupsCarried : ℕ → List Bool
 groupsCarried i = carries (partsAt i) gyro ∷ carries (partsAt i) accelerometer ∷ carries (partsAt i) inclinometer ∷ []
 
--- the length L: the bytes before the check, the check of 4 bytes, and 2 bytes with termination 1
-abbrev pub lengthIn : Found → ℕ → ℕ
-lengthIn Unlisted termination = 0
-lengthIn (Listed l) termination = l .before + 4 + 2 * termination
+-- a row by the place of its identifier in a range of the table: 0 the gyro alone, 1 with acceleration, 2 with inclination, 3 with both
+abbrev pub rowWith : ℕ → Bool → Bool → Row
+rowWith groups warm voltage =
+    record { acceleration = eqb (groups % 2) 1; inclination = eqb (groups / 2 % 2) 1; temperatures = warm; aux = voltage }

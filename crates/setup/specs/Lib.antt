@@ -1,3 +1,4 @@
--- The rules of the layouts by identifier and of a setup, with what is turned down of it.
+-- The rules of the layouts by identifier and of a setup, with what is turned down of it and what an accepted one says.
 pub mod Layout
 pub mod Setup
+pub mod Sensor

@@ -4,12 +4,32 @@ use mathlib.Core.Bool.{Bool, true, false, not, _&&_, _||_, cond}
 use mathlib.Core.List.{List, [], _∷_}
 use lib.Dec.{eqb, ltb}
 use lib.ListN.{getD, replicate}
-use Rattle.setup.specs.Layout.{layoutOf, groupsCarried, lengthIn}
-use Rattle.setup.specs.declared.Found.{Found}
-use Rattle.setup.specs.declared.Found.the-variants.{Listed, Unlisted}
+use Rattle.setup.specs.Layout.{layoutOf, lengthIn, rowAt, groupsCarried}
+use Rattle.setup.specs.declared.Listing.{Listing}
+use Rattle.setup.specs.declared.Listing.the-variants.{Listed, Unlisted}
+use Rattle.setup.specs.declared.Unit.{Unit}
+use Rattle.setup.specs.declared.Unit.the-variants.{Instantaneous, Incremental, Average, Integrated}
+use Rattle.setup.specs.declared.Rate.{Rate}
+use Rattle.setup.specs.declared.Rate.the-variants.{ExternalTrigger, Hertz125, Hertz250, Hertz500, Hertz1000, Hertz2000}
 use Rattle.setup.specs.declared.Setup.{Setup}
 use Rattle.setup.specs.declared.Ruling.{Ruling}
 use Rattle.setup.specs.declared.Ruling.the-variants.{Accepted, Refused}
+
+-- rate 0 is external trigger; the others are so many datagrams a second
+abbrev pub hertz : Rate → ℕ
+hertz ExternalTrigger = 0
+hertz Hertz125 = 125
+hertz Hertz250 = 250
+hertz Hertz500 = 500
+hertz Hertz1000 = 1000
+hertz Hertz2000 = 2000
+
+-- units are 0 instantaneous, 1 incremental, 2 average, 3 integrated
+abbrev pub unitNumber : Unit → ℕ
+unitNumber Instantaneous = 0
+unitNumber Incremental = 1
+unitNumber Average = 2
+unitNumber Integrated = 3
 
 -- a reason to turn something down, whether it applies, and 01's number for it
 pub record Rule : Type 0 where
@@ -24,13 +44,15 @@ abbrev pub firstOf : List Rule → Ruling
 firstOf [] = Accepted
 firstOf (r ∷ rs) = cond (r .applies) (Refused (r .number)) (firstOf rs)
 
--- 4: the rates that there are; 0 is external trigger
+-- 4: the rate is one of the six
 abbrev pub rateListed : ℕ → Bool
-rateListed r = eqb r 0 || eqb r 125 || eqb r 250 || eqb r 500 || eqb r 1000 || eqb r 2000
+rateListed n =
+    eqb n (hertz ExternalTrigger) || eqb n (hertz Hertz125) || eqb n (hertz Hertz250) || eqb n (hertz Hertz500) || eqb n (hertz Hertz1000) ||
+    eqb n (hertz Hertz2000)
 
 -- 5: the identifier is in the table
-abbrev pub isListed : Found → Bool
-isListed (Listed l) = true
+abbrev pub isListed : Listing → Bool
+isListed (Listed r) = true
 isListed Unlisted = false
 
 -- 7, 8: one of the three groups' numbers is above the limit
@@ -51,7 +73,7 @@ stray carried units shifts =
 unfoldable pub setupRules : Setup → List Rule
 setupRules s =
     rule 4 (not (rateListed (s .rate))) ∷
-    rule 5 (not (isListed (layoutOf (s .identifier)))) ∷
+    rule 5 (not (isListed (rowAt (s .identifier)))) ∷
     rule 6 (ltb 1 (s .termination)) ∷
     rule 7 (anyAbove 3 (s .units)) ∷
     rule 8 (anyAbove 31 (s .shifts)) ∷
@@ -65,6 +87,14 @@ rulingOn s = firstOf (setupRules s)
 abbrev pub zeroSetup : Setup
 zeroSetup = record { rate = 0; identifier = 0; termination = 0; units = replicate 3 0; shifts = replicate 3 0 }
 
+-- termination 1: the ending follows the check
+abbrev pub terminated : Setup → Bool
+terminated s = eqb (s .termination) 1
+
 -- the length L of a datagram of a setup, 0 where the identifier isn't in the table
+abbrev pub lengthAt : Listing → Bool → ℕ
+lengthAt (Listed r) ending = lengthIn (layoutOf r ending)
+lengthAt Unlisted ending = 0
+
 unfoldable pub lengthOf : Setup → ℕ
-lengthOf s = lengthIn (layoutOf (s .identifier)) (s .termination)
+lengthOf s = lengthAt (rowAt (s .identifier)) (terminated s)

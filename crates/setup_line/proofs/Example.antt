@@ -2,7 +2,8 @@
 use Prim.Native.Nat.{ℕ}
 use mathlib.Core.List.{List, [], _∷_}
 use mathlib.Core.Path.{_≡_, refl}
-use Rattle.setup.specs.Layout.{groupsCarried, layoutOf, partsAt}
+use Rattle.crc.specs.Check.{stim300}
+use Rattle.setup.specs.Layout.{partsOf, groupsCarried, rowAt, partsAt}
 use Rattle.setup.specs.Setup.{setupRules, lengthOf}
 use Rattle.setup_line.specs.SetupLine.{fieldsOf, fieldAt, allDigits, decimalWritten, identifierWritten, decimalFrom, identifierValue, lineWritten, setupWritten, lineRules, lineRead}
 use Rattle.setup.specs.declared.Setup.{Setup}
@@ -18,10 +19,10 @@ exampleSetup = record { rate = 1000; identifier = 0x90; termination = 0; units =
 
 pub example-read : lineRead example ≡ record { answer = Accepted; setup = exampleSetup }
 unfolding
-    lineRead lineRules setupWritten lineWritten identifierValue decimalFrom identifierWritten decimalWritten allDigits fieldAt fieldsOf setupRules groupsCarried layoutOf
-    partsAt
+    lineRead lineRules setupWritten lineWritten identifierValue decimalFrom identifierWritten decimalWritten allDigits fieldAt fieldsOf setupRules groupsCarried rowAt
+    partsAt partsOf
 example-read = refl
 
 pub example-length : lengthOf exampleSetup ≡ 18
-unfolding lengthOf layoutOf partsAt
+unfolding lengthOf rowAt partsOf stim300
 example-length = refl

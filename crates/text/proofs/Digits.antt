@@ -1,74 +1,62 @@
--- What the decimal text of a number is, without the bound of its recursion: the text of a single digit, and that of a longer number from a
--- shorter one; and what follows of every text: it writes the number, has digits only and no leading zero, and is so long at most.
+-- What the decimal text of a number is: the text of a single digit, and that of a longer number from a shorter one; and what follows of every
+-- text: it writes the number, has digits only and no leading zero, and is so long at most.
 use mathlib.Core.Path.{_≡_, refl, sym, ap, _∙_, subst}
-use mathlib.Core.Bool.{Bool, true, false, not, _&&_}
+use mathlib.Core.Bool.{true}
 use mathlib.Core.List.{List, [], _∷_, _++_, append-assoc}
+use mathlib.Core.WellFounded.{Acc, Acc·intro, Acc-prop, recursion}
 use Prim.Native.Nat.{ℕ, zero, suc, _+_, _*_, _/_, _%_, _^_, _≤_, _<_}
 use native.Mathlib.Decide.{decLt}
 use native.Mathlib.Nat.{pow-suc, zero-add}
 use native.Mathlib.Omega.{arith}
-use borrow.Author.Tests.{lt-ltb, le-ltb, le-leb}
-use lib.Dec.{T, ltb, nltb→le}
+use borrow.Author.Tests.{le-leb}
 use lib.IntN.{ℤ, pos, negsuc, natAbs}
 use lib.ListN.{length, length-append, getD, List·getD-append}
+use lib.WfN.{Nat·lt-wfRel}
+use Rattle.integers.proofs.Booleans.{and-split, and-true}
 use Rattle.integers.proofs.Parts.{posPart, negPart}
 use Rattle.setup_line.specs.SetupLine.{isDigit, digitValue, allDigits, decimalFrom}
-use Rattle.text.specs.Decimal.{digitsBy, digits, decimal, lastThree}
+use Rattle.text.specs.Decimal.{digitsBy, digitsFrom, digits, decimal, lastThree}
 
 -- ---- the two equations
 
--- more steps than n change nothing
-same-by : (f g : ℕ) (b : Bool) (n : ℕ) → (T (not b) → 10 ≤ n) → n ≤ f → n ≤ g → digitsBy f b n ≡ digitsBy g b n
+single-by : (n : ℕ) (d : Dec (n < 10)) (shorter : (m : ℕ) → m < n → List ℕ) → n < 10 → digitsBy n d shorter ≡ (0x30 + n) ∷ []
 unfolding digitsBy
-same-by zero zero b n h p q = refl
-same-by zero (suc g) true n h p q = refl
-same-by zero (suc g) false n h p q = let l : 10 ≤ n = h tt in let z : ⊥ = omega arith in absurd z
-same-by (suc f) zero true n h p q = refl
-same-by (suc f) zero false n h p q = let l : 10 ≤ n = h tt in let z : ⊥ = omega arith in absurd z
-same-by (suc f) (suc g) true n h p q = refl
-same-by (suc f) (suc g) false n h p q =
-    let l : 10 ≤ n = h tt in
-    let p2 : n / 10 ≤ f = omega arith in
-    let q2 : n / 10 ≤ g = omega arith in
-    ap (λ (ds : List ℕ). ds ++ (0x30 + n % 10) ∷ []) (same-by f g (ltb (n / 10) 10) (n / 10) (nltb→le (n / 10) 10) p2 q2)
+single-by n (yes l) shorter h = refl
+single-by n (no g) shorter h = absurd (g h)
 
-small-by : (f n : ℕ) → digitsBy f true n ≡ (0x30 + n) ∷ []
+longer-by : (n : ℕ) (d : Dec (n < 10)) (shorter : (m : ℕ) → m < n → List ℕ) → ((m : ℕ) (l : m < n) → shorter m l ≡ digits m)
+    → 10 ≤ n → digitsBy n d shorter ≡ digits (n / 10) ++ (0x30 + n % 10) ∷ []
 unfolding digitsBy
-small-by zero n = refl
-small-by (suc f) n = refl
+longer-by n (yes l) shorter e h = let z : ⊥ = omega arith in absurd z
+longer-by n (no g) shorter e h = ap (λ (ds : List ℕ). ds ++ (0x30 + n % 10) ∷ []) (e (n / 10) _)
 
-large-by : (f n : ℕ) → 10 ≤ n → n ≤ f → digitsBy f false n ≡ digits (n / 10) ++ (0x30 + n % 10) ∷ []
-unfolding digitsBy digits
-large-by zero n h k = let z : ⊥ = omega arith in absurd z
-large-by (suc f) n h k =
-    let p : n / 10 ≤ f = omega arith in
-    let q : n / 10 ≤ n / 10 = omega arith in
-    ap (λ (ds : List ℕ). ds ++ (0x30 + n % 10) ∷ []) (same-by f (n / 10) (ltb (n / 10) 10) (n / 10) (nltb→le (n / 10) 10) p q)
+-- whichever way n is reached
+same-from : (n : ℕ) (a : Acc _<_ n) → digitsFrom n a ≡ digits n
+unfolding digits
+same-from n a = ap (digitsFrom n) (Acc-prop a (Nat·lt-wfRel .wf .apply n))
+
+longer-from : (n : ℕ) (a : Acc _<_ n) → 10 ≤ n → digitsFrom n a ≡ digits (n / 10) ++ (0x30 + n % 10) ∷ []
+unfolding digitsFrom
+longer-from n (Acc·intro m below) h = longer-by m (decLt m 10) (λ k l. digitsFrom k (below k l)) (λ k l. same-from k (below k l)) h
 
 pub digits-small : (n : ℕ) → n < 10 → digits n ≡ (0x30 + n) ∷ []
-unfolding digits
-digits-small n h = ap (λ (b : Bool). digitsBy n b n) (lt-ltb n 10 h) ∙ small-by n n
+unfolding digits digitsFrom
+digits-small n h = single-by n (decLt n 10) _ h
 
 pub digits-large : (n : ℕ) → 10 ≤ n → digits n ≡ digits (n / 10) ++ (0x30 + n % 10) ∷ []
-unfolding digits
-digits-large n h = let k : n ≤ n = omega arith in ap (λ (b : Bool). digitsBy n b n) (le-ltb n 10 h) ∙ large-by n n h k
+digits-large n h = sym (same-from n (Nat·lt-wfRel .wf .apply n)) ∙ longer-from n (Nat·lt-wfRel .wf .apply n) h
 
 -- what holds of every single digit, and of n by what holds of n / 10, holds of every number
 module _ (P : ℕ → List ℕ → Type 0) (one : (n : ℕ) → n < 10 → P n ((0x30 + n) ∷ []))
     (more : (n : ℕ) (ds : List ℕ) → 10 ≤ n → P (n / 10) ds → P n (ds ++ (0x30 + n % 10) ∷ [])) where
-  by-steps : (f n : ℕ) → n ≤ f → P n (digits n)
-  by-steps zero n h = let l : n < 10 = omega arith in subst (P n) (sym (digits-small n l)) (one n l)
-  by-steps (suc f) n h = by (decLt n 10) (λ (m : ℕ) (k : m ≤ f). by-steps f m k)
-    where
-      by : Dec (n < 10) → ((m : ℕ) → m ≤ f → P m (digits m)) → P n (digits n)
-      by (yes l) next = subst (P n) (sym (digits-small n l)) (one n l)
-      by (no g) next =
-          let l : 10 ≤ n = omega arith in
-          let k : n / 10 ≤ f = omega arith in
-          subst (P n) (sym (digits-large n l)) (more n (digits (n / 10)) l (next (n / 10) k))
+  by-size : (n : ℕ) → Dec (n < 10) → ((m : ℕ) → m < n → P m (digits m)) → P n (digits n)
+  by-size n (yes l) below = subst (P n) (sym (digits-small n l)) (one n l)
+  by-size n (no g) below =
+      let l : 10 ≤ n = omega arith in
+      subst (P n) (sym (digits-large n l)) (more n (digits (n / 10)) l (below (n / 10) (omega arith)))
 
   pub digits-ind : (n : ℕ) → P n (digits n)
-  digits-ind n = let k : n ≤ n = omega arith in by-steps n n k
+  digits-ind n = recursion (Nat·lt-wfRel .wf) {C = λ (m : ℕ). P m (digits m)} n (λ m below. by-size m (decLt m 10) below)
 
 -- ---- what every text is
 
@@ -93,11 +81,7 @@ digits-value =
 all-append : (xs : List ℕ) (y : ℕ) → allDigits xs ≡ true → isDigit y ≡ true → allDigits (xs ++ y ∷ []) ≡ true
 unfolding allDigits
 all-append [] y e f = rw f
-all-append (x ∷ xs) y e f = by (isDigit x) e (all-append xs y)
-  where
-    by : (b : Bool) → (b && allDigits xs) ≡ true → (allDigits xs ≡ true → isDigit y ≡ true → allDigits (xs ++ y ∷ []) ≡ true) → (b && allDigits (xs ++ y ∷ [])) ≡ true
-    by true e ih = ih e f
-    by false e ih = e
+all-append (x ∷ xs) y e f = let t = and-split (isDigit x) (allDigits xs) e in and-true (t .0) (all-append xs y (t .1) f)
 
 -- it has digits only
 pub digits-all : (n : ℕ) → allDigits (digits n) ≡ true

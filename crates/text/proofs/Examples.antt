@@ -3,6 +3,7 @@ use Prim.Native.Nat.{ℕ}
 use mathlib.Core.Bool.{true, false}
 use mathlib.Core.List.{List, [], _∷_}
 use mathlib.Core.Path.{_≡_, refl}
+use native.Mathlib.Decide.{decLe, decLt}
 use lib.IntN.{ℤ, pos, negsuc}
 use lib.ListN.{length, replicate}
 use Rattle.setup.specs.Layout.{groupsCarried, partsAt}
@@ -12,8 +13,8 @@ use Rattle.motion.specs.declared.Gap.the-variants.{Missed}
 use Rattle.motion.specs.declared.Total.{Total}
 use Rattle.motion.specs.declared.GroupTotals.{GroupTotals}
 use Rattle.motion.specs.declared.Totals.{Totals}
-use Rattle.text.specs.Decimal.{digitsBy, digits, decimal}
-use Rattle.text.specs.TextLine.{groupFields, groupsFields, lineFields, parted, lineText, longestLine}
+use Rattle.text.specs.Decimal.{digitsBy, digitsFrom, digits, decimal}
+use Rattle.text.specs.TextLine.{groupFields, groupsFields, shownBy, shownFields, parted, shownText, lineText, longestLine}
 
 -- ---- the example setup, 1000,90,0,3,0,0,21,0,0, with gyro X 8388600 and then -8388600
 
@@ -47,11 +48,11 @@ secondLine =
     0x2C ∷ 0x2C ∷ 0x2C ∷ 0x2C ∷ 0x2C ∷ 0x2C ∷ 0x2C ∷ 0x2C ∷ 0x2C ∷ 0x2C ∷ 0x2C ∷ 0x0A ∷ []
 
 pub first-line : lineText setup 1 2 0 (Missed (record { 0 = 0 })) (readings (pos 8388600)) (0 ∷ 0 ∷ 0 ∷ []) (totals (pos 0)) ≡ firstLine
-unfolding lineText lineFields groupsFields groupFields parted decimal digits digitsBy groupsCarried partsAt groupsKept
+unfolding lineText shownText shownFields shownBy groupsFields groupFields parted decimal digits digitsFrom digitsBy decLt decLe groupsCarried partsAt groupsKept
 first-line = refl
 
 pub second-line : lineText setup 2 4 0 (Missed (record { 0 = 0 })) (readings (negsuc 8388599)) (0 ∷ 0 ∷ 0 ∷ []) (totals (pos 16)) ≡ secondLine
-unfolding lineText lineFields groupsFields groupFields parted decimal digits digitsBy groupsCarried partsAt groupsKept
+unfolding lineText shownText shownFields shownBy groupsFields groupFields parted decimal digits digitsFrom digitsBy decLt decLe groupsCarried partsAt groupsKept
 second-line = refl
 
 -- ---- every group carried and integrated, every number the longest of its type
@@ -67,5 +68,5 @@ fullTotals =
 
 -- 01 has no line longer than `longestLine`, and this one is as long
 pub longest-reached : length (lineText fullSetup 18446744073709551615 255 65535 (Missed (record { 0 = 18446744073709551615 })) (replicate 3 (replicate 3 (negsuc 8388607))) (255 ∷ 255 ∷ 255 ∷ []) fullTotals) ≡ longestLine
-unfolding lineText lineFields groupsFields groupFields parted decimal digits digitsBy groupsCarried partsAt groupsKept
+unfolding lineText shownText shownFields shownBy groupsFields groupFields parted decimal digits digitsFrom digitsBy decLt decLe groupsCarried partsAt groupsKept
 longest-reached = refl

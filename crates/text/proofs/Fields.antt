@@ -5,14 +5,12 @@ use Prim.Native.Nat.{ℕ, _+_, _≤_}
 use native.Mathlib.Omega.{arith}
 use lib.ListN.{length, length-append}
 use lib.IntN.{ℤ}
-use Rattle.setup.specs.Layout.{groupsCarried}
-use Rattle.setup.specs.declared.Setup.{Setup}
-use Rattle.motion.specs.Totals.{groupsKept}
 use Rattle.motion.specs.declared.Gap.{Gap}
 use Rattle.motion.specs.declared.Totals.{Totals}
 use Rattle.text.specs.Decimal.{digits}
-use Rattle.text.specs.Putting.{Put, behind, frontText}
-use Rattle.text.specs.TextLine.{missedField, groupsFields, lineFields, parted, lineText}
+use Rattle.text.specs.Putting.{Put, behind, headingText}
+use Rattle.text.specs.TextLine.{missedField, groupsFields, shownFields, parted, shownText}
+use Rattle.text.specs.declared.Shown.{Shown}
 use Rattle.text.proofs.Putting.{then-put, put-length}
 
 pub behind-append : (xs ys : List (List ℕ)) → behind (xs ++ ys) ≡ behind xs ++ behind ys
@@ -40,15 +38,15 @@ module _ (xs ys : List (List ℕ)) {b b1 : List ℕ} {at mid : ℕ} (p : Put b a
 pub room-field : (f : List ℕ) (fs : List (List ℕ)) (at : ℕ) {n : ℕ} → at + length (behind (f ∷ fs)) ≤ n → at + length (0x2C ∷ f) ≤ n
 room-field f fs at h = omega (arith, length-append (0x2C ∷ f) (behind fs))
 
--- the line is its front, the fields of the groups and the line end
-pub line-text : (setup : Setup) (ordinal counter latency : ℕ) (gap : Gap) (readings : List (List ℤ)) (statuses : List ℕ) (totals : Totals)
-    → lineText setup ordinal counter latency gap readings statuses totals
-    ≡ frontText ordinal counter latency gap ++ (behind (groupsFields (groupsCarried (setup .identifier)) (groupsKept setup) readings statuses totals) ++ 0x0A ∷ [])
-unfolding lineText lineFields
-line-text setup ordinal counter latency gap readings statuses totals =
-    let front = digits counter ∷ digits latency ∷ missedField gap ∷ [] in
-    let groups = groupsFields (groupsCarried (setup .identifier)) (groupsKept setup) readings statuses totals in
+-- the line is its heading, the fields of the groups and the line end
+pub line-text : (shown : Shown) (ordinal counter latency : ℕ) (gap : Gap) (readings : List (List ℤ)) (statuses : List ℕ) (totals : Totals)
+    → shownText shown ordinal counter latency gap readings statuses totals
+    ≡ headingText ordinal counter latency gap ++ (behind (groupsFields (shown .carried) (shown .kept) readings statuses totals) ++ 0x0A ∷ [])
+unfolding shownText shownFields
+line-text shown ordinal counter latency gap readings statuses totals =
+    let heading = digits counter ∷ digits latency ∷ missedField gap ∷ [] in
+    let groups = groupsFields (shown .carried) (shown .kept) readings statuses totals in
     ap (λ t. t ++ 0x0A ∷ [])
-    (parted-behind (digits ordinal) (front ++ groups) ∙ ap (λ t. digits ordinal ++ t) (behind-append front groups)
-    ∙ sym (append-assoc (digits ordinal) (behind front) (behind groups)))
-    ∙ append-assoc (frontText ordinal counter latency gap) (behind groups) (0x0A ∷ [])
+    (parted-behind (digits ordinal) (heading ++ groups) ∙ ap (λ t. digits ordinal ++ t) (behind-append heading groups)
+    ∙ sym (append-assoc (digits ordinal) (behind heading) (behind groups)))
+    ∙ append-assoc (headingText ordinal counter latency gap) (behind groups) (0x0A ∷ [])

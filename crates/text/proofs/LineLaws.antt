@@ -16,13 +16,14 @@ use Rattle.setup.specs.declared.Setup.{Setup}
 use Rattle.setup.specs.declared.Ruling as ruling
 use Rattle.setup.specs.declared.Ruling.{Ruling}
 use Rattle.setup.proofs.Refusals.{judge-numbers}
-use Rattle.setup.proofs.Rules.{first-accepted, first-refused}
+use Rattle.setup.proofs.Rules.{first-within, none-applies, first-accepted, first-refused}
 use Rattle.motion.specs.declared.Gap.{Gap}
 use Rattle.motion.specs.declared.Totals.{Totals}
-use Rattle.text.specs.TextLine.{lineText, outside, roomRules, lineRules, writtenBy, lineRuling, lineAnswer, lineBuffer, longestLine}
+use Rattle.text.specs.TextLine.{shownBy, shownText, lineText, outside, roomRules, shownRules, lineRules, writtenBy, shownRuling, shownAnswer, shownBuffer, lineRuling, lineAnswer, lineBuffer, longestLine}
+use Rattle.text.specs.declared.Shown.{Shown}
 use Rattle.text.specs.declared.Written.{Written}
 use Rattle.text.specs.declared.Written.the-variants.{Line, Refused}
-use Rattle.text.proofs.Answers.{room-short, room-enough, room-left, inside}
+use Rattle.text.proofs.Answers.{room-short, room-enough, inside, room-left, accepted-answer}
 use Rattle.text.proofs.Longest.{MissedFits, longest}
 
 -- ---- from an answer to the ruling
@@ -53,26 +54,60 @@ accepted-split rs ss e = by (firstOf rs) refl
     by ruling.the-variants.Accepted a = (a, sym (first-accepted rs ss a) ∙ e)
     by (ruling.the-variants.Refused m) a = let f = first-refused rs ss a in let z : _≡_ {A = ℕ} 0 1 = cc in absurd (omega arith)
 
--- 13 and 14
-last-refused : (o t : Bool) {n : ℕ} → firstOf (rule 13 o ∷ rule 14 t ∷ []) ≡ ruling.the-variants.Refused n → (n ≡ 13) ⊎ (n ≡ 14)
-last-refused true t {n} e = let s : n ≡ 13 = cc in inl s
-last-refused false true {n} e = let s : n ≡ 14 = cc in inr s
-last-refused false false e = let z : _≡_ {A = ℕ} 0 1 = cc in absurd (omega arith)
-
+-- 14 alone refuses: 13 doesn't
 last-fourteen : (o t : Bool) → firstOf (rule 13 o ∷ rule 14 t ∷ []) ≡ ruling.the-variants.Refused 14 → (o ≡ false) × (t ≡ true)
 last-fourteen true t e = let s : _≡_ {A = ℕ} 13 14 = cc in absurd (omega arith)
 last-fourteen false true e = (refl, refl)
 last-fourteen false false e = let z : _≡_ {A = ℕ} 0 1 = cc in absurd (omega arith)
 
-last-accepted : (o t : Bool) → firstOf (rule 13 o ∷ rule 14 t ∷ []) ≡ ruling.the-variants.Accepted → (o ≡ false) × (t ≡ false)
-last-accepted true t e = let z : _≡_ {A = ℕ} 0 1 = cc in absurd (omega arith)
-last-accepted false true e = let z : _≡_ {A = ℕ} 0 1 = cc in absurd (omega arith)
-last-accepted false false e = (refl, refl)
+last-numbers : (o t : Bool) {n : ℕ} → firstOf (rule 13 o ∷ rule 14 t ∷ []) ≡ ruling.the-variants.Refused n → (13 ≤ n) × (n ≤ 14)
+last-numbers o t e = first-within 13 14 (rule 13 o ∷ rule 14 t ∷ []) (omega arith, omega arith, (omega arith, omega arith, tt)) e
 
--- ---- the numbers
+-- ---- a line by what is shown
+
+module _ (b : List ℕ) (shown : Shown) (ordinal counter latency : ℕ) (gap : Gap) (readings : List (List ℤ)) (statuses : List ℕ) (totals : Totals) where
+  abbrev shown-text : List ℕ
+  shown-text = shownText shown ordinal counter latency gap readings statuses totals
+
+  abbrev shown-ruling : Ruling
+  shown-ruling = shownRuling b shown ordinal counter latency gap readings statuses totals
+
+  abbrev shown-answer : Written
+  shown-answer = shownAnswer b shown ordinal counter latency gap readings statuses totals
+
+  abbrev shown-buffer : List ℕ
+  shown-buffer = shownBuffer b shown ordinal counter latency gap readings statuses totals
+
+  -- it is refused by 13 and 14 only, and a refusal writes nothing
+  pub shown-numbers : {n : ℕ} → shown-answer ≡ Refused n → (13 ≤ n) × (n ≤ 14)
+  unfolding shownAnswer shownRuling shownRules
+  shown-numbers e = last-numbers (outside ordinal readings totals) (ltb (length b) (length shown-text)) (refused-by shown-ruling shown-text e)
+
+  pub shown-keeps : {n : ℕ} → shown-answer ≡ Refused n → shown-buffer ≡ b
+  unfolding shownAnswer shownBuffer
+  shown-keeps e = rw (refused-by shown-ruling shown-text e)
+
+  -- a written line tells its length, and alters only its own bytes, from the front
+  pub shown-tells : {n : ℕ} → shown-answer ≡ Line n → n ≡ length shown-text
+  unfolding shownAnswer
+  shown-tells e = written-by shown-ruling shown-text e .1
+
+  pub shown-front : {n : ℕ} → shown-answer ≡ Line n → shown-buffer ≡ shown-text ++ drop n b
+  unfolding shownAnswer shownBuffer
+  shown-front e = let w = written-by shown-ruling shown-text e in rw (w .0, w .1)
+
+  -- a buffer as long as the line is enough, and one that is shorter isn't
+  module _ (h : outside ordinal readings totals ≡ false) where
+    pub shown-enough : length shown-text ≤ length b → shown-answer ≡ Line (length shown-text)
+    shown-enough l = sym (room-enough b shown-text l .0 ∙ room-left b shown ordinal counter latency gap readings statuses totals h .0)
+
+    pub shown-short : length b < length shown-text → shown-answer ≡ Refused 14
+    shown-short l = sym (room-short b shown-text l .0 ∙ room-left b shown ordinal counter latency gap readings statuses totals h .0)
+
+-- ---- a line under a setup
 
 abbrev pub LineNumber : ℕ → Type 0
-LineNumber n = ((4 ≤ n) × (n ≤ 9)) ⊎ ((n ≡ 13) ⊎ (n ≡ 14))
+LineNumber n = ((4 ≤ n) × (n ≤ 9)) ⊎ ((13 ≤ n) × (n ≤ 14))
 
 module _ (b : List ℕ) (setup : Setup) (ordinal counter latency : ℕ) (gap : Gap) (readings : List (List ℤ)) (statuses : List ℕ) (totals : Totals) where
   abbrev text : List ℕ
@@ -87,33 +122,35 @@ module _ (b : List ℕ) (setup : Setup) (ordinal counter latency : ℕ) (gap : G
   abbrev buffer : List ℕ
   buffer = lineBuffer b setup ordinal counter latency gap readings statuses totals
 
-  to-refused : {n : ℕ} → answer ≡ Refused n → ruling-line ≡ ruling.the-variants.Refused n
-  unfolding lineAnswer
-  to-refused e = refused-by ruling-line text e
+  abbrev rules : List Rule
+  rules = rule 13 (outside ordinal readings totals) ∷ roomRules text (length b)
 
-  to-accepted : {n : ℕ} → answer ≡ Line n → (ruling-line ≡ ruling.the-variants.Accepted) × (n ≡ length text)
-  unfolding lineAnswer
-  to-accepted e = written-by ruling-line text e
+  -- which list of rules refuses it, where one does
+  refused-of : {n : ℕ} → answer ≡ Refused n → (rulingOn setup ≡ ruling.the-variants.Refused n) ⊎ (firstOf rules ≡ ruling.the-variants.Refused n)
+  unfolding lineAnswer lineRuling lineRules shownRules rulingOn
+  refused-of e = refused-split (setupRules setup) rules (refused-by ruling-line text e)
+
+  written-of : {n : ℕ} → answer ≡ Line n → (firstOf (setupRules setup ++ rules) ≡ ruling.the-variants.Accepted) × (n ≡ length text)
+  unfolding lineAnswer lineRuling lineRules shownRules
+  written-of e = written-by ruling-line text e
 
   -- a line is refused by 4 to 9, 13 and 14 only
   pub answer-numbers : {n : ℕ} → answer ≡ Refused n → LineNumber n
-  unfolding lineRuling lineRules rulingOn
-  answer-numbers {n} e =
-      ⊎-elim (λ s. inl (judge-numbers setup s)) (λ l. inr (last-refused (outside ordinal readings totals) (ltb (length b) (length text)) l))
-      (refused-split (setupRules setup) (rule 13 (outside ordinal readings totals) ∷ roomRules text (length b)) (to-refused e))
+  answer-numbers e =
+      ⊎-elim (λ s. inl (judge-numbers setup s)) (λ l. inr (last-numbers (outside ordinal readings totals) (ltb (length b) (length text)) l)) (refused-of e)
 
   -- a refusal writes nothing
   pub refused-keeps : {n : ℕ} → answer ≡ Refused n → buffer ≡ b
-  unfolding lineBuffer
-  refused-keeps e = rw (to-refused e)
+  unfolding lineAnswer lineBuffer
+  refused-keeps e = rw (refused-by ruling-line text e)
 
   -- a written line tells its length, and alters only its own bytes, from the front
   pub written-tells : {n : ℕ} → answer ≡ Line n → n ≡ length text
-  written-tells e = to-accepted e .1
+  written-tells e = written-of e .1
 
   pub written-front : {n : ℕ} → answer ≡ Line n → buffer ≡ text ++ drop n b
-  unfolding lineBuffer
-  written-front e = rw (to-accepted e .0, to-accepted e .1)
+  unfolding lineAnswer lineBuffer
+  written-front e = let w = written-by ruling-line text e in rw (w .0, w .1)
 
   pub written-line : {n : ℕ} → answer ≡ Line n → take n buffer ≡ text
   written-line {n} e = ap (take n) (written-front e) ∙ take-at text (drop n b) n (sym (written-tells e))
@@ -123,27 +160,32 @@ module _ (b : List ℕ) (setup : Setup) (ordinal counter latency : ℕ) (gap : G
 
   -- what is written has been accepted, and has room
   pub written-fits : {n : ℕ} → answer ≡ Line n → (rulingOn setup ≡ ruling.the-variants.Accepted) × (outside ordinal readings totals ≡ false) × (length text ≤ length b)
-  unfolding lineRuling lineRules rulingOn
+  unfolding rulingOn
   written-fits e =
-      let a = accepted-split (setupRules setup) (rule 13 (outside ordinal readings totals) ∷ roomRules text (length b)) (to-accepted e .0) in
-      let l = last-accepted (outside ordinal readings totals) (ltb (length b) (length text)) (a .1) in
-      (a .0, l .0, ltb-false (length b) (length text) (l .1))
+      let a = accepted-split (setupRules setup) rules (written-of e .0) in
+      let l = none-applies rules (a .1) in
+      (a .0, l .0, ltb-false (length b) (length text) (l .1 .0))
 
   -- a buffer as long as the line is enough, and one that is shorter isn't
   module _ (a : rulingOn setup ≡ ruling.the-variants.Accepted) (h : outside ordinal readings totals ≡ false) where
     pub enough-room : length text ≤ length b → answer ≡ Line (length text)
-    enough-room l = sym (room-enough b text l .0 ∙ room-left b setup ordinal counter latency gap readings statuses totals a h .0)
+    unfolding lineText
+    enough-room l =
+        sym (accepted-answer b setup ordinal counter latency gap readings statuses totals a)
+        ∙ shown-enough b (shownBy setup) ordinal counter latency gap readings statuses totals h l
 
     pub too-short : length b < length text → answer ≡ Refused 14
-    too-short l = sym (room-short b text l .0 ∙ room-left b setup ordinal counter latency gap readings statuses totals a h .0)
+    unfolding lineText
+    too-short l =
+        sym (accepted-answer b setup ordinal counter latency gap readings statuses totals a)
+        ∙ shown-short b (shownBy setup) ordinal counter latency gap readings statuses totals h l
 
   -- a buffer of `longestLine` bytes is never too short
   pub never-short : ordinal < 2 ^ 64 → counter < 256 → latency < 65536 → MissedFits gap → ((i : ℕ) → getD statuses i 0 < 256) → longestLine ≤ length b → answer ≡ Refused 14 → ⊥
-  unfolding lineRuling lineRules rulingOn
   never-short o c l g s room e =
       ⊎-elim (λ f. let n = judge-numbers setup f in omega arith)
       (λ f.
       let t = last-fourteen (outside ordinal readings totals) (ltb (length b) (length text)) f in
       let i = inside ordinal readings totals (t .0) in
       omega (arith, ltb-true (length b) (length text) (t .1), longest setup ordinal counter latency gap readings statuses totals o c l g s (i .0) (i .1)))
-      (refused-split (setupRules setup) (rule 13 (outside ordinal readings totals) ∷ roomRules text (length b)) (to-refused e))
+      (refused-of e)

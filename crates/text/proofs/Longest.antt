@@ -8,18 +8,18 @@ use lib.IntN.{ℤ, pos, negsuc, natAbs}
 use lib.ListN.{length, length-append, getD}
 use Rattle.integers.specs.Ranges.{inReading}
 use Rattle.integers.proofs.Parts.{natAbs-parts, parts-apart}
-use Rattle.integers.proofs.Ranges.{and-split, within-true, inReading-true}
-use Rattle.setup.specs.Layout.{groupsCarried}
+use Rattle.integers.proofs.Booleans.{and-split}
+use Rattle.integers.proofs.Ranges.{within-true, inReading-true}
 use Rattle.setup.specs.declared.Setup.{Setup}
-use Rattle.motion.specs.Totals.{groupsKept}
 use Rattle.motion.specs.declared.Gap.{Gap}
 use Rattle.motion.specs.declared.Gap.the-variants.{Missed, OffStep}
 use Rattle.motion.specs.declared.Total.{Total}
 use Rattle.motion.specs.declared.GroupTotals.{GroupTotals}
 use Rattle.motion.specs.declared.Totals.{Totals}
 use Rattle.text.specs.Decimal.{digits, decimal}
-use Rattle.text.specs.Putting.{behind, frontText}
-use Rattle.text.specs.TextLine.{shownIf, missedField, axisFields, totalField, totalFields, groupFields, groupsFields, lineText, rowFits, readingsFit, totalWithin, groupWithin, totalsWithin, longestLine}
+use Rattle.text.specs.Putting.{behind, headingText}
+use Rattle.text.specs.TextLine.{shownIf, missedField, axisFields, totalField, totalFields, groupFields, groupsFields, shownBy, shownText, lineText, rowFits, readingsFit, totalWithin, groupWithin, totalsWithin, longestLine}
+use Rattle.text.specs.declared.Shown.{Shown}
 use Rattle.text.proofs.Digits.{digits-at-most}
 use Rattle.text.proofs.Fields.{behind-append, line-text}
 
@@ -114,9 +114,9 @@ groups-at-most carried kept readings statuses totals e h f =
       group-at-most (getD carried 2 false) (getD kept 2 false) (getD readings 2 []) (getD statuses 2 0) (totals .inclinometer) (last .1) (h 2) (end .1),
     )
 
-front-at-most : (ordinal counter latency : ℕ) (gap : Gap) → ordinal < 2 ^ 64 → counter < 256 → latency < 65536 → MissedFits gap
-    → length (frontText ordinal counter latency gap) ≤ 51
-front-at-most ordinal counter latency gap o c l g =
+heading-at-most : (ordinal counter latency : ℕ) (gap : Gap) → ordinal < 2 ^ 64 → counter < 256 → latency < 65536 → MissedFits gap
+    → length (headingText ordinal counter latency gap) ≤ 51
+heading-at-most ordinal counter latency gap o c l g =
     omega (
       arith,
       length-append (digits ordinal) (behind (digits counter ∷ digits latency ∷ missedField gap ∷ [])),
@@ -131,20 +131,26 @@ front-at-most ordinal counter latency gap o c l g =
 
 -- ---- the line
 
+pub shown-longest : (shown : Shown) (ordinal counter latency : ℕ) (gap : Gap) (readings : List (List ℤ)) (statuses : List ℕ) (totals : Totals)
+    → ordinal < 2 ^ 64 → counter < 256 → latency < 65536 → MissedFits gap → ((i : ℕ) → getD statuses i 0 < 256)
+    → readingsFit readings ≡ true → totalsWithin totals ≡ true
+    → length (shownText shown ordinal counter latency gap readings statuses totals) ≤ longestLine
+shown-longest shown ordinal counter latency gap readings statuses totals o c l g s r t =
+    let heading = headingText ordinal counter latency gap in
+    let groups = behind (groupsFields (shown .carried) (shown .kept) readings statuses totals) in
+    omega (
+      arith,
+      ap length (line-text shown ordinal counter latency gap readings statuses totals),
+      length-append heading (groups ++ 0x0A ∷ []),
+      length-append groups (0x0A ∷ []),
+      heading-at-most ordinal counter latency gap o c l g,
+      groups-at-most (shown .carried) (shown .kept) readings statuses totals r s t,
+    )
+
 pub longest : (setup : Setup) (ordinal counter latency : ℕ) (gap : Gap) (readings : List (List ℤ)) (statuses : List ℕ) (totals : Totals)
     → ordinal < 2 ^ 64 → counter < 256 → latency < 65536 → MissedFits gap → ((i : ℕ) → getD statuses i 0 < 256)
     → readingsFit readings ≡ true → totalsWithin totals ≡ true
     → length (lineText setup ordinal counter latency gap readings statuses totals) ≤ longestLine
-longest setup ordinal counter latency gap readings statuses totals o c l g s r t =
-    let carried = groupsCarried (setup .identifier) in
-    let kept = groupsKept setup in
-    let front = frontText ordinal counter latency gap in
-    let groups = behind (groupsFields carried kept readings statuses totals) in
-    omega (
-      arith,
-      ap length (line-text setup ordinal counter latency gap readings statuses totals),
-      length-append front (groups ++ 0x0A ∷ []),
-      length-append groups (0x0A ∷ []),
-      front-at-most ordinal counter latency gap o c l g,
-      groups-at-most carried kept readings statuses totals r s t,
-    )
+unfolding lineText
+longest setup ordinal counter latency gap readings statuses totals =
+    shown-longest (shownBy setup) ordinal counter latency gap readings statuses totals

@@ -8,17 +8,16 @@ use borrow.Author.Tests.{ne-eqb}
 use lib.Dec.{eqb}
 use lib.IntN.{ℤ, pos, negsuc}
 use lib.ListN.{length, getD, replicate}
-use Rattle.setup.specs.Layout.{groupsCarried}
+use Rattle.integers.proofs.Booleans.{and-split, and-true}
 use Rattle.setup_line.specs.SetupLine.{fieldsOf}
-use Rattle.setup.specs.declared.Setup.{Setup}
-use Rattle.motion.specs.Totals.{groupsKept}
 use Rattle.motion.specs.declared.Gap.{Gap}
 use Rattle.motion.specs.declared.Gap.the-variants.{Missed, OffStep}
 use Rattle.motion.specs.declared.Total.{Total}
 use Rattle.motion.specs.declared.GroupTotals.{GroupTotals}
 use Rattle.motion.specs.declared.Totals.{Totals}
 use Rattle.text.specs.Decimal.{digits, decimal}
-use Rattle.text.specs.TextLine.{shownIf, missedField, totalField, groupFields, groupsFields, lineFields, parted}
+use Rattle.text.specs.TextLine.{shownIf, missedField, totalField, groupFields, groupsFields, shownFields, parted}
+use Rattle.text.specs.declared.Shown.{Shown}
 use Rattle.text.proofs.Digits.{digits-ind}
 
 -- no byte of a text, and of some fields, is x
@@ -37,11 +36,7 @@ free-cons x b t h e = rw (ne-eqb b x h, e)
 free-append : (x : ℕ) (s t : List ℕ) → free x s ≡ true → free x t ≡ true → free x (s ++ t) ≡ true
 unfolding free
 free-append x [] t e f = f
-free-append x (b ∷ s) t e f = by (eqb b x) e (free-append x s t)
-  where
-    by : (z : Bool) → (not z && free x s) ≡ true → (free x s ≡ true → free x t ≡ true → free x (s ++ t) ≡ true) → (not z && free x (s ++ t)) ≡ true
-    by true e next = e
-    by false e next = next e f
+free-append x (b ∷ s) t e f = let p = and-split (not (eqb b x)) (free x s) e in and-true (p .0) (free-append x s t (p .1) f)
 
 -- ---- the fields are free of what is below `-`, so of comma and line end
 
@@ -123,12 +118,12 @@ pub uncarried-empty : (kept : Bool) (row : List ℤ) (status : ℕ) (t : GroupTo
 unfolding groupFields
 uncarried-empty kept row status t = refl
 
-module _ (setup : Setup) (ordinal counter latency : ℕ) (gap : Gap) (readings : List (List ℤ)) (statuses : List ℕ) (totals : Totals) where
+module _ (shown : Shown) (ordinal counter latency : ℕ) (gap : Gap) (readings : List (List ℤ)) (statuses : List ℕ) (totals : Totals) where
   abbrev fields : List (List ℕ)
-  fields = lineFields setup ordinal counter latency gap readings statuses totals
+  fields = shownFields shown ordinal counter latency gap readings statuses totals
 
   all-free : (x : ℕ) → x < 0x2D → AllFree x fields
-  unfolding lineFields
+  unfolding shownFields
   all-free x h = (
     digits-free x h ordinal,
     (
@@ -137,7 +132,7 @@ module _ (setup : Setup) (ordinal counter latency : ℕ) (gap : Gap) (readings :
         digits-free x h latency,
         (
           missed-free x h gap,
-          groups-free x h (groupsCarried (setup .identifier)) (groupsKept setup) readings statuses totals,
+          groups-free x h (shown .carried) (shown .kept) readings statuses totals,
         ),
       ),
     ),
@@ -145,15 +140,15 @@ module _ (setup : Setup) (ordinal counter latency : ℕ) (gap : Gap) (readings :
 
   -- 25 fields
   pub line-count : length fields ≡ 25
-  unfolding lineFields groupsFields groupFields
+  unfolding shownFields groupsFields groupFields
   line-count = refl
 
   -- which the commas part
   pub line-fields : fieldsOf (parted fields) ≡ fields
-  unfolding lineFields
+  unfolding shownFields
   line-fields = fields-parted (digits ordinal) _ (all-free 0x2C (omega arith))
 
   -- with no 0x0A before the end
   pub line-end : free 0x0A (parted fields) ≡ true
-  unfolding lineFields
+  unfolding shownFields
   line-end = parted-free 0x0A (digits ordinal) _ (λ e. omega arith) (all-free 0x0A (omega arith))

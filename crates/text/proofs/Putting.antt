@@ -1,19 +1,16 @@
 -- Texts put into a buffer one behind the other are their joined text, put where the first begins.
-use mathlib.Core.Path.{_≡_, refl, sym, ap, _∙_}
+use mathlib.Core.Path.{_≡_, refl, sym, ap, _∙_, subst}
 use mathlib.Core.List.{List, [], _∷_, _++_}
-use Prim.Native.Nat.{ℕ, suc, _+_, _≤_}
-use native.Mathlib.Nat.{add-zero, add-suc, suc-add}
+use Prim.Native.Nat.{ℕ, suc, _+_, _/_, _%_, _≤_}
+use native.Mathlib.Nat.{add-zero}
 use native.Mathlib.Numerals.{add-one}
 use native.Mathlib.Omega.{arith}
 use lib.ListN.{length, length-append, set}
-use lib.Seq.{sets, length-sets}
+use lib.Seq.{length-sets}
+use Rattle.integers.proofs.Buffers.{sets-append}
+use Rattle.text.specs.Decimal.{digits, lastThree}
 use Rattle.text.specs.Putting.{Put}
-
-sets-append : (b : List ℕ) (i : ℕ) (xs ys : List ℕ) → sets b i (xs ++ ys) ≡ sets (sets b i xs) (i + length xs) ys
-sets-append b i [] ys = ap (λ (k : ℕ). sets b k ys) (sym (add-zero i))
-sets-append b i (x ∷ xs) ys =
-    sets-append (set b i x) (suc i) xs ys
-    ∙ ap (λ (k : ℕ). sets (sets (set b i x) (suc i) xs) k ys) (suc-add i (length xs) ∙ sym (add-suc i (length xs)))
+use Rattle.text.proofs.Digits.{digits-more}
 
 -- nothing
 pub put-none : {b : List ℕ} {at : ℕ} → Put b at [] b at
@@ -50,3 +47,18 @@ module _ {b b1 : List ℕ} {at mid : ℕ} {s : List ℕ} (p : Put b at s b1 mid)
 -- where there is room for two texts there is room for the first
 pub room-first : (at : ℕ) (s t : List ℕ) {n : ℕ} → at + length (s ++ t) ≤ n → at + length s ≤ n
 room-first at s t h = omega (arith, length-append s t)
+
+-- a number from 1000 on: its last three digits behind those of its thousands
+module _ (n : ℕ) (h : 1000 ≤ n) where
+  room-parts : (at : ℕ) {size : ℕ} → at + length (digits n) ≤ size → at + length (digits (n / 1000) ++ lastThree (n % 1000)) ≤ size
+  room-parts at {size} room = subst (λ (ds : List ℕ). at + length ds ≤ size) (digits-more n h) room
+
+  pub room-thousands : (at : ℕ) {size : ℕ} → at + length (digits n) ≤ size → at + length (digits (n / 1000)) ≤ size
+  room-thousands at room = room-first at (digits (n / 1000)) (lastThree (n % 1000)) (room-parts at room)
+
+  module _ {b b1 : List ℕ} {at mid : ℕ} (p : Put b at (digits (n / 1000)) b1 mid) where
+    pub room-three : at + length (digits n) ≤ length b → mid + 3 ≤ length b1
+    room-three room = room-then p (lastThree (n % 1000)) (room-parts at room)
+
+    pub then-three : {b2 : List ℕ} {end : ℕ} → Put b1 mid (lastThree (n % 1000)) b2 end → Put b at (digits n) b2 end
+    then-three {b2} {end} q = subst (λ (ds : List ℕ). Put b at ds b2 end) (sym (digits-more n h)) (then-put p q)

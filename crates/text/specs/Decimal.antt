@@ -1,20 +1,24 @@
 -- Decimals as bytes (01, The text line): `-` before negatives, no leading zeros.
-use Prim.Native.Nat.{ℕ, zero, suc, _+_, _/_, _%_}
-use mathlib.Core.Bool.{Bool, true, false}
+use Prim.Native.Nat.{ℕ, suc, _+_, _/_, _%_, _<_}
+use native.Mathlib.Decide.{decLt}
+use native.Mathlib.Omega.{arith}
 use mathlib.Core.List.{List, [], _∷_, _++_}
-use lib.Dec.{ltb}
+use mathlib.Core.WellFounded.{Acc, Acc·intro}
 use lib.IntN.{ℤ, pos, negsuc}
+use lib.WfN.{Nat·lt-wfRel}
 
--- The digits of n in at most so many steps; the Bool says that n is a single digit. The recursion needs a bound, and n itself is one:
--- the laws of proofs/Digits say what `digits` is without it.
-unfoldable pub digitsBy : ℕ → Bool → ℕ → List ℕ
-digitsBy zero single n = (0x30 + n) ∷ []
-digitsBy (suc steps) true n = (0x30 + n) ∷ []
-digitsBy (suc steps) false n = digitsBy steps (ltb (n / 10) 10) (n / 10) ++ (0x30 + n % 10) ∷ []
+-- the digits of n from those of the smaller numbers: below 10 its digit, and else the digits of n / 10 and then that of n % 10
+unfoldable pub digitsBy : (n : ℕ) → Dec (n < 10) → ((m : ℕ) → m < n → List ℕ) → List ℕ
+digitsBy n (yes single) shorter = (0x30 + n) ∷ []
+digitsBy n (no longer) shorter = shorter (n / 10) (omega arith) ++ (0x30 + n % 10) ∷ []
 
--- an unsigned number: below 10 its digit, and else the digits of n / 10 and then that of n % 10
+-- so for every n, down the order of the numbers, in which each is reached from the smaller ones (`Acc`)
+unfoldable pub digitsFrom : (n : ℕ) → Acc _<_ n → List ℕ
+digitsFrom n (Acc·intro m below) = digitsBy m (decLt m 10) (λ k l. digitsFrom k (below k l))
+
+-- an unsigned number
 unfoldable pub digits : ℕ → List ℕ
-digits n = digitsBy n (ltb n 10) n
+digits n = digitsFrom n (Nat·lt-wfRel .wf .apply n)
 
 -- a signed number
 unfoldable pub decimal : ℤ → List ℕ

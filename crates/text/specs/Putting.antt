@@ -20,9 +20,9 @@ abbrev pub behind : List (List ℕ) → List ℕ
 behind [] = []
 behind (f ∷ fs) = (0x2C ∷ f) ++ behind fs
 
--- the front of a line, before the groups
-abbrev pub frontText : ℕ → ℕ → ℕ → Gap → List ℕ
-frontText ordinal counter latency gap = digits ordinal ++ behind (digits counter ∷ digits latency ∷ missedField gap ∷ [])
+-- the heading of a line, before the groups
+abbrev pub headingText : ℕ → ℕ → ℕ → Gap → List ℕ
+headingText ordinal counter latency gap = digits ordinal ++ behind (digits counter ∷ digits latency ∷ missedField gap ∷ [])
 
 -- a text in a buffer where only 14 is left to refuse it
 unfoldable pub roomAnswer : List ℕ → List ℕ → Written

@@ -18,6 +18,7 @@ use Rattle.motion.specs.declared.Total.{Total}
 use Rattle.motion.specs.declared.GroupTotals.{GroupTotals}
 use Rattle.motion.specs.declared.Totals.{Totals}
 use Rattle.text.specs.Decimal.{digits, decimal}
+use Rattle.text.specs.declared.Shown.{Shown}
 use Rattle.text.specs.declared.Written.{Written}
 use Rattle.text.specs.declared.Written.the-variants.{Line, Refused}
 
@@ -59,11 +60,15 @@ groupsFields carried kept readings statuses totals =
     (groupFields (getD carried 1 false) (getD kept 1 false) (getD readings 1 []) (getD statuses 1 0) (totals .accelerometer) ++
     groupFields (getD carried 2 false) (getD kept 2 false) (getD readings 2 []) (getD statuses 2 0) (totals .inclinometer))
 
+-- what a setup shows: the groups that it carries, and the totals of those that it keeps
+unfoldable pub shownBy : Setup → Shown
+shownBy setup = record { carried = groupsCarried (setup .identifier); kept = groupsKept setup }
+
 -- the 25 fields: ordinal, counter, latency, missed; then those of the groups
-unfoldable pub lineFields : Setup → ℕ → ℕ → ℕ → Gap → List (List ℤ) → List ℕ → Totals → List (List ℕ)
-lineFields setup ordinal counter latency gap readings statuses totals =
+unfoldable pub shownFields : Shown → ℕ → ℕ → ℕ → Gap → List (List ℤ) → List ℕ → Totals → List (List ℕ)
+shownFields shown ordinal counter latency gap readings statuses totals =
     digits ordinal ∷ digits counter ∷ digits latency ∷ missedField gap ∷
-    groupsFields (groupsCarried (setup .identifier)) (groupsKept setup) readings statuses totals
+    groupsFields (shown .carried) (shown .kept) readings statuses totals
 
 -- ---- the line
 
@@ -74,9 +79,14 @@ parted (f ∷ []) = f
 parted (f ∷ g ∷ gs) = f ++ 0x2C ∷ parted (g ∷ gs)
 
 -- then byte 0x0A
+unfoldable pub shownText : Shown → ℕ → ℕ → ℕ → Gap → List (List ℤ) → List ℕ → Totals → List ℕ
+shownText shown ordinal counter latency gap readings statuses totals =
+    parted (shownFields shown ordinal counter latency gap readings statuses totals) ++ 0x0A ∷ []
+
+-- the line of a datagram under a setup
 unfoldable pub lineText : Setup → ℕ → ℕ → ℕ → Gap → List (List ℤ) → List ℕ → Totals → List ℕ
 lineText setup ordinal counter latency gap readings statuses totals =
-    parted (lineFields setup ordinal counter latency gap readings statuses totals) ++ 0x0A ∷ []
+    shownText (shownBy setup) ordinal counter latency gap readings statuses totals
 
 -- ---- what is turned down
 
@@ -105,10 +115,13 @@ outside ordinal readings totals = not (readingsFit readings) || not (totalsWithi
 abbrev pub roomRules : List ℕ → ℕ → List Rule
 roomRules text room = rule 14 (ltb room (length text)) ∷ []
 
--- the rules for a line with this text
+-- the rules for a line with this text, whatever shows it
+unfoldable pub shownRules : ℕ → List (List ℤ) → Totals → List ℕ → ℕ → List Rule
+shownRules ordinal readings totals text room = rule 13 (outside ordinal readings totals) ∷ roomRules text room
+
+-- and under a setup, whose own rules come first
 unfoldable pub lineRules : Setup → ℕ → List (List ℤ) → Totals → List ℕ → ℕ → List Rule
-lineRules setup ordinal readings totals text room =
-    setupRules setup ++ rule 13 (outside ordinal readings totals) ∷ roomRules text room
+lineRules setup ordinal readings totals text room = setupRules setup ++ shownRules ordinal readings totals text room
 
 -- ---- the answer and the buffer
 
@@ -121,6 +134,16 @@ writtenBy (ruling.the-variants.Refused number) text = Refused number
 abbrev pub bufferBy : Ruling → List ℕ → List ℕ → List ℕ
 bufferBy ruling.the-variants.Accepted text b = text ++ drop (length text) b
 bufferBy (ruling.the-variants.Refused number) text b = b
+
+module _ (b : List ℕ) (shown : Shown) (ordinal counter latency : ℕ) (gap : Gap) (readings : List (List ℤ)) (statuses : List ℕ) (totals : Totals) where
+  unfoldable pub shownRuling : Ruling
+  shownRuling = firstOf (shownRules ordinal readings totals (shownText shown ordinal counter latency gap readings statuses totals) (length b))
+
+  unfoldable pub shownAnswer : Written
+  shownAnswer = writtenBy shownRuling (shownText shown ordinal counter latency gap readings statuses totals)
+
+  unfoldable pub shownBuffer : List ℕ
+  shownBuffer = bufferBy shownRuling (shownText shown ordinal counter latency gap readings statuses totals) b
 
 module _ (b : List ℕ) (setup : Setup) (ordinal counter latency : ℕ) (gap : Gap) (readings : List (List ℤ)) (statuses : List ℕ) (totals : Totals) where
   unfoldable pub lineRuling : Ruling

@@ -4,8 +4,8 @@ ghost use mathlib.Core.List.{_∷_};
 ghost use Prim.Native.Nat.{_+_, _<_, _≤_};
 ghost use lib.ListN.{length};
 ghost use Rattle.text.specs.Decimal.{digits, decimal, lastThree};
-ghost use Rattle.text.specs.Putting.{Put, behind, frontText, roomAnswer, roomBuffer};
-ghost use Rattle.text.specs.TextLine.{shownIf, missedField, axisFields, totalField, totalFields, groupFields, groupsFields, lineText, rowFits, readingsFit, totalWithin, groupWithin, totalsWithin, outside, lineAnswer, lineBuffer, longestLine};
+ghost use Rattle.text.specs.Putting.{Put, behind, headingText, roomAnswer, roomBuffer};
+ghost use Rattle.text.specs.TextLine.{shownIf, missedField, axisFields, totalField, totalFields, groupFields, groupsFields, shownBy, shownText, rowFits, readingsFit, totalWithin, groupWithin, totalsWithin, outside, shownAnswer, shownBuffer, lineAnswer, lineBuffer, longestLine};
 use motion::Gap;
 use motion::GroupTotals;
 use motion::Total;
@@ -19,8 +19,14 @@ pub enum Written {
     Refused(u8),
 }
 
+// Which groups a line shows, and of which groups the totals: gyro, accelerometer, inclinometer. Totals of a group that isn't carried aren't shown.
+pub struct Shown {
+    pub carried: [bool; 3],
+    pub kept: [bool; 3],
+}
+
 // The fields before the groups.
-struct Front {
+struct Heading {
     ordinal: u64,
     counter: u8,
     latency: u16,
@@ -141,14 +147,14 @@ fn put_missed(buffer: &mut [u8], at: usize, gap: Gap) -> usize
     }
 }
 
-fn put_front(buffer: &mut [u8], front: Front) -> usize
-    requires { ⌜ length (frontText (front .ordinal) (front .counter) (front .latency) (front .gap)) ≤ length (now buffer) ⌝ }
-    ensures { λ r. ⌜ Put (now (buffer .entry)) 0 (frontText (front .ordinal) (front .counter) (front .latency) (front .gap)) (now (buffer .exit)) r ⌝ }
+fn put_heading(buffer: &mut [u8], heading: Heading) -> usize
+    requires { ⌜ length (headingText (heading .ordinal) (heading .counter) (heading .latency) (heading .gap)) ≤ length (now buffer) ⌝ }
+    ensures { λ r. ⌜ Put (now (buffer .entry)) 0 (headingText (heading .ordinal) (heading .counter) (heading .latency) (heading .gap)) (now (buffer .exit)) r ⌝ }
 {
-    let ordinal = put_digits(buffer, 0, front.ordinal);
-    let counter = put_unsigned(buffer, ordinal, true, front.counter as u64);
-    let latency = put_unsigned(buffer, counter, true, front.latency as u64);
-    let gap = front.gap;
+    let ordinal = put_digits(buffer, 0, heading.ordinal);
+    let counter = put_unsigned(buffer, ordinal, true, heading.counter as u64);
+    let latency = put_unsigned(buffer, counter, true, heading.latency as u64);
+    let gap = heading.gap;
     put_missed(buffer, latency, gap)
 }
 
@@ -241,18 +247,18 @@ fn put_groups(
 // The line at the front of a buffer with room for it.
 fn put_line(
     buffer: &mut [u8],
-    setup: Setup,
-    front: Front,
+    shown: Shown,
+    heading: Heading,
     readings: [[i32; 3]; 3],
     statuses: [u8; 3],
     totals: Totals,
 ) -> usize
-    requires { ⌜ length (lineText setup (front .ordinal) (front .counter) (front .latency) (front .gap) readings statuses totals) ≤ length (now buffer) ⌝ }
-    ensures { λ r. ⌜ Put (now (buffer .entry)) 0 (lineText setup (front .ordinal) (front .counter) (front .latency) (front .gap) readings statuses totals) (now (buffer .exit)) r ⌝ }
+    requires { ⌜ length (shownText shown (heading .ordinal) (heading .counter) (heading .latency) (heading .gap) readings statuses totals) ≤ length (now buffer) ⌝ }
+    ensures { λ r. ⌜ Put (now (buffer .entry)) 0 (shownText shown (heading .ordinal) (heading .counter) (heading .latency) (heading .gap) readings statuses totals) (now (buffer .exit)) r ⌝ }
 {
-    let carried = setup::groups_carried(setup.identifier);
-    let kept = motion::kept_groups(setup);
-    let at = put_front(buffer, front);
+    let carried = shown.carried;
+    let kept = shown.kept;
+    let at = put_heading(buffer, heading);
     let end = put_groups(buffer, at, carried, kept, readings, statuses, totals);
     buffer[end] = 0x0A;
     end + 1
@@ -300,32 +306,26 @@ fn outside(ordinal: u64, readings: [[i32; 3]; 3], totals: Totals) -> bool
 fn copy_line(buffer: &mut [u8], line: &[u8]) -> Written
     ensures { λ r. ⌜ r ≡ roomAnswer (now (buffer .entry)) (now (line .entry)) ⌝ ∗ ⌜ now (buffer .exit) ≡ roomBuffer (now (buffer .entry)) (now (line .entry)) ⌝ }
 {
-    let n = line.len();
-    if buffer.len() < n {
+    if buffer.len() < line.len() {
         return Written::Refused(14);
     }
-    let mut i: usize = 0;
-    while i < n {
-        buffer[i] = line[i];
-        i += 1;
-    }
-    Written::Line(n)
+    Written::Line(bytes::copy(line, buffer))
 }
 
 // A line for a buffer that may be too short for it: written elsewhere first.
 fn write_apart(
     buffer: &mut [u8],
-    setup: Setup,
-    front: Front,
+    shown: Shown,
+    heading: Heading,
     readings: [[i32; 3]; 3],
     statuses: [u8; 3],
     totals: Totals,
 ) -> Written
-    requires { ⌜ length (lineText setup (front .ordinal) (front .counter) (front .latency) (front .gap) readings statuses totals) ≤ longestLine ⌝ }
-    ensures { λ r. ⌜ r ≡ roomAnswer (now (buffer .entry)) (lineText setup (front .ordinal) (front .counter) (front .latency) (front .gap) readings statuses totals) ⌝ ∗ ⌜ now (buffer .exit) ≡ roomBuffer (now (buffer .entry)) (lineText setup (front .ordinal) (front .counter) (front .latency) (front .gap) readings statuses totals) ⌝ }
+    requires { ⌜ length (shownText shown (heading .ordinal) (heading .counter) (heading .latency) (heading .gap) readings statuses totals) ≤ longestLine ⌝ }
+    ensures { λ r. ⌜ r ≡ roomAnswer (now (buffer .entry)) (shownText shown (heading .ordinal) (heading .counter) (heading .latency) (heading .gap) readings statuses totals) ⌝ ∗ ⌜ now (buffer .exit) ≡ roomBuffer (now (buffer .entry)) (shownText shown (heading .ordinal) (heading .counter) (heading .latency) (heading .gap) readings statuses totals) ⌝ }
 {
     let mut line: [u8; 307] = [0; 307];
-    let n = put_line(&mut line, setup, front, readings, statuses, totals);
+    let n = put_line(&mut line, shown, heading, readings, statuses, totals);
     copy_line(buffer, &line[..n])
 }
 
@@ -336,7 +336,48 @@ pub fn longest_line() -> usize
     307
 }
 
-// Writes the line at the front of the buffer and tells how many bytes it has, or refuses by 4 to 9 for the setup, 13 or 14 and writes nothing.
+// What a setup shows.
+pub fn shown_by(setup: Setup) -> Shown
+    ensures { λ r. ⌜ r ≡ shownBy setup ⌝ }
+{
+    let carried = setup::groups_carried(setup.identifier);
+    let kept = motion::kept_groups(setup);
+    Shown {
+        carried: carried,
+        kept: kept,
+    }
+}
+
+// Writes the line at the front of the buffer and tells how many bytes it has, or refuses by 13 or 14 and writes nothing.
+pub fn write_shown(
+    buffer: &mut [u8],
+    shown: Shown,
+    ordinal: u64,
+    counter: u8,
+    latency: u16,
+    gap: Gap,
+    readings: [[i32; 3]; 3],
+    statuses: [u8; 3],
+    totals: Totals,
+) -> Written
+    ensures { λ r. ⌜ r ≡ shownAnswer (now (buffer .entry)) shown ordinal counter latency gap readings statuses totals ⌝ ∗ ⌜ now (buffer .exit) ≡ shownBuffer (now (buffer .entry)) shown ordinal counter latency gap readings statuses totals ⌝ }
+{
+    if outside(ordinal, readings, totals) {
+        return Written::Refused(13);
+    }
+    let heading = Heading {
+        ordinal: ordinal,
+        counter: counter,
+        latency: latency,
+        gap: gap,
+    };
+    if buffer.len() < longest_line() {
+        return write_apart(buffer, shown, heading, readings, statuses, totals);
+    }
+    Written::Line(put_line(buffer, shown, heading, readings, statuses, totals))
+}
+
+// The same for what a setup shows, after the setup itself, which 4 to 9 refuse.
 pub fn write_line(
     buffer: &mut [u8],
     setup: Setup,
@@ -354,17 +395,15 @@ pub fn write_line(
     if let Ruling::Refused(number) = ruling {
         return Written::Refused(number);
     }
-    if outside(ordinal, readings, totals) {
-        return Written::Refused(13);
-    }
-    let front = Front {
-        ordinal: ordinal,
-        counter: counter,
-        latency: latency,
-        gap: gap,
-    };
-    if buffer.len() < longest_line() {
-        return write_apart(buffer, setup, front, readings, statuses, totals);
-    }
-    Written::Line(put_line(buffer, setup, front, readings, statuses, totals))
+    write_shown(
+        buffer,
+        shown_by(setup),
+        ordinal,
+        counter,
+        latency,
+        gap,
+        readings,
+        statuses,
+        totals,
+    )
 }

@@ -1,75 +1,77 @@
 -- Laws of acceptable datagrams: what is known of one, and what is enough.
-use Prim.Native.Nat.{ℕ, _+_, _-_, _*_, _≤_}
+use Prim.Native.Nat.{ℕ, _+_, _/_, _≤_}
 use native.Mathlib.Omega.{arith}
 use mathlib.Core.Bool.{Bool, true, false, not, _&&_, _||_}
-use mathlib.Core.List.{List}
-use mathlib.Core.Path.{_≡_, refl, ap, _∙_}
-use lib.Dec.{eqb, ltb, leb}
-use lib.ListN.{length, getD}
-use borrow.Author.Tests.{ltb-true, ltb-false, leb-true, le-leb, lt-leb, eqb-true, eq-eqb, ne-eqb, not-false}
-use Rattle.integers.proofs.Ranges.{and-split, or-split}
-use Rattle.setup.specs.Layout.{layoutOf, lengthIn}
-use Rattle.setup.specs.Setup.{isListed, lengthOf}
-use Rattle.setup.specs.declared.Found.{Found}
-use Rattle.setup.specs.declared.Found.the-variants.{Listed, Unlisted}
+use mathlib.Core.List.{List, [], _∷_}
+use mathlib.Core.Path.{_≡_, refl, sym, ap, _∙_}
+use lib.Dec.{eqb, leb}
+use lib.ListN.{length, getD, take, drop, length-drop, drop-of-length-le}
+use lib.Seq.{take-all}
+use borrow.Author.Tests.{eqb-true, eq-eqb, leb-true, le-leb}
+use Rattle.integers.specs.Bytes.{bigEndian}
+use Rattle.integers.proofs.Ranges.{and-split}
+use Rattle.crc.specs.Check.{stim300, check32}
+use Rattle.setup.specs.Layout.{bytes, partsOf, Layout, layoutOf, lengthIn, rowAt}
+use Rattle.setup.specs.Setup.{rulingOn, terminated, lengthOf}
+use Rattle.setup.specs.Sensor.{sensorOf}
+use Rattle.setup.specs.declared.Row.{Row}
+use Rattle.setup.specs.declared.Listing.{Listing}
+use Rattle.setup.specs.declared.Listing.the-variants.{Listed, Unlisted}
 use Rattle.setup.specs.declared.Setup.{Setup}
-use Rattle.setup.proofs.Layouts.{before-range}
-use Rattle.wire.specs.Acceptable.{checkPlace, checkRight, endingRight, acceptable}
-use Rattle.wire.proofs.FieldPlaces.{before-bytes}
+use Rattle.setup.specs.declared.Ruling.the-variants as ruling
+use Rattle.setup.proofs.Layouts.{length-range}
+use Rattle.setup.proofs.Refusals as refusals
+use Rattle.setup.proofs.Sensors.{sensor-row}
+use Rattle.wire.specs.Acceptable.{same, checkRight, endingRight, acceptableIn, acceptableAt, acceptable}
+use Rattle.wire.proofs.FieldPlaces.{window-within, two-bytes, four-bytes}
 
--- the length L of a listed identifier
-pub listed-length : (u : Setup) → isListed (layoutOf (u .identifier)) ≡ true
-    → (lengthOf u ≡ checkPlace (u .identifier) + 4 + 2 * u .termination) × (14 ≤ checkPlace (u .identifier)) × (checkPlace (u .identifier) ≤ 59)
-unfolding lengthOf
-listed-length u = by (layoutOf (u .identifier)) refl
-  where
-    by : (f : Found) → layoutOf (u .identifier) ≡ f → isListed f ≡ true
-        → (lengthIn (layoutOf (u .identifier)) (u .termination) ≡ checkPlace (u .identifier) + 4 + 2 * u .termination) × (14 ≤ checkPlace (u .identifier)) × (checkPlace (u .identifier) ≤ 59)
-    by (Listed l) e t =
-        let b = before-bytes (u .identifier) e in
-        let r = before-range (u .identifier) e in
-        (ap (λ f. lengthIn f (u .termination)) e ∙ ap (λ n. n + 4 + 2 * u .termination) b, omega arith, omega arith)
-    by Unlisted e t = let z : _≡_ {A = ℕ} 0 1 = cc in absurd (omega arith)
-
--- what an acceptable list is known by
+-- what an acceptable list of a setup is known by
 pub record Facts (u : Setup) (s : List ℕ) : Type 0 where
-  pub listed : isListed (layoutOf (u .identifier)) ≡ true
+  pub row : Row
+  pub listed : rowAt (u .identifier) ≡ Listed row
   pub termination : u .termination ≤ 1
   pub long : length s ≡ lengthOf u
   pub first : getD s 0 0 ≡ u .identifier
-  pub ending : endingRight (u .termination) (checkPlace (u .identifier) + 4) s ≡ true
-  pub check : checkRight (checkPlace (u .identifier)) s ≡ true
+  pub ending : endingRight (layoutOf row (terminated u)) s ≡ true
+  pub check : checkRight (layoutOf row (terminated u)) s ≡ true
 
 module _ (u : Setup) (s : List ℕ) where
-  pub accepted : acceptable u s ≡ true → Facts u s
+  -- by the row of its identifier
+  pub row-acceptable : {r : Row} → rowAt (u .identifier) ≡ Listed r → u .termination ≤ 1
+      → acceptable u s ≡ acceptableIn (u .identifier) (layoutOf r (terminated u)) s
   unfolding acceptable
-  accepted e =
-      let listed = isListed (layoutOf (u .identifier)) in
-      let few = leb (u .termination) 1 in
-      let long = eqb (length s) (lengthOf u) in
-      let first = eqb (getD s 0 0) (u .identifier) in
-      let ending = endingRight (u .termination) (checkPlace (u .identifier) + 4) s in
-      let sixth = and-split (listed && few && long && first && ending) (checkRight (checkPlace (u .identifier)) s) e in
-      let fifth = and-split (listed && few && long && first) ending (sixth .0) in
-      let fourth = and-split (listed && few && long) first (fifth .0) in
-      let third = and-split (listed && few) long (fourth .0) in
-      let second = and-split listed few (third .0) in
-      record {
-        listed = second .0;
-        termination = leb-true (u .termination) 1 (second .1);
-        long = eqb-true (length s) (lengthOf u) (third .1);
-        first = eqb-true (getD s 0 0) (u .identifier) (fourth .1);
-        ending = fifth .1;
-        check = sixth .1;
-      }
+  row-acceptable e h = rw (e, le-leb (u .termination) 1 h)
+
+  pub accepted : acceptable u s ≡ true → Facts u s
+  unfolding acceptable acceptableIn
+  accepted = by (rowAt (u .identifier)) refl
+    where
+      by : (l : Listing) → rowAt (u .identifier) ≡ l → acceptableAt l u s ≡ true → Facts u s
+      by (Listed r) listed e =
+          let l = layoutOf r (terminated u) in
+          let long = eqb (length s) (lengthIn l) in
+          let first = eqb (getD s 0 0) (u .identifier) in
+          let both = and-split (leb (u .termination) 1) (acceptableIn (u .identifier) l s) e in
+          let fourth = and-split (long && first && endingRight l s) (checkRight l s) (both .1) in
+          let third = and-split (long && first) (endingRight l s) (fourth .0) in
+          let second = and-split long first (third .0) in
+          record {
+            row = r;
+            listed = listed;
+            termination = leb-true (u .termination) 1 (both .0);
+            long = eqb-true (length s) (lengthIn l) (second .0) ∙ sym (refusals.listed-length u listed);
+            first = eqb-true (getD s 0 0) (u .identifier) (second .1);
+            ending = third .1;
+            check = fourth .1;
+          }
+      by Unlisted listed e = let z : _≡_ {A = ℕ} 0 1 = cc in absurd (omega arith)
 
   pub accepts : Facts u s → acceptable u s ≡ true
-  unfolding acceptable
+  unfolding acceptableIn
   accepts a =
       rw (
-        a .listed,
-        le-leb (u .termination) 1 (a .termination),
-        eq-eqb (length s) (lengthOf u) (a .long),
+        row-acceptable (a .listed) (a .termination),
+        eq-eqb (length s) (lengthIn (layoutOf (a .row) (terminated u))) (a .long ∙ refusals.listed-length u (a .listed)),
         eq-eqb (getD s 0 0) (u .identifier) (a .first),
         a .ending,
         a .check,
@@ -79,64 +81,66 @@ module _ (u : Setup) (s : List ℕ) where
   pub accepted-length : acceptable u s ≡ true → (18 ≤ length s) × (length s ≤ 65)
   accepted-length e =
       let a = accepted e in
-      let l = listed-length u (a .listed) in
-      (omega arith, omega arith)
+      rw (a .long, refusals.listed-length u (a .listed)) (length-range (a .row) (terminated u))
+
+  -- of a setup that is accepted, by the sensor that it describes
+  pub sensor-acceptable : rulingOn u ≡ ruling.Accepted
+      → acceptable u s ≡ acceptableIn (sensorOf u .identifier) (layoutOf (sensorOf u .row) (sensorOf u .terminated)) s
+  unfolding sensorOf
+  sensor-acceptable ok = row-acceptable (sensor-row u ok) (refusals.accepted u ok .termination)
 
 -- of the setup only the identifier and the termination matter
 pub same-acceptable : (u v : Setup) (s : List ℕ) → u .identifier ≡ v .identifier → u .termination ≡ v .termination → acceptable u s ≡ acceptable v s
-unfolding acceptable lengthOf
-same-acceptable u v s i t = rw (i, t)
-
--- ---- in the order of the code, which finds the place of the check from the length
-
-in-order : (a b c d e : Bool) → (not a && b && c && d && e) ≡ (not (a || not b) && not (not c || not d) && e)
-in-order true b c d e = refl
-in-order false false c d e = refl
-in-order false true false d e = refl
-in-order false true true false e = refl
-in-order false true true true e = refl
-
-few : (n : ℕ) → leb n 1 ≡ not (ltb 1 n)
-few n = by (ltb 1 n) refl
+unfolding acceptable
+same-acceptable u v s i t = ap (λ n. acceptableAt (rowAt n) u s) i ∙ by (rowAt (v .identifier))
   where
-    by : (b : Bool) → ltb 1 n ≡ b → leb n 1 ≡ not b
-    by true e = lt-leb n 1 (ltb-true 1 n e)
-    by false e = le-leb n 1 (ltb-false 1 n e)
+    by : (l : Listing) → acceptableAt l u s ≡ acceptableAt l v s
+    by (Listed r) = rw (i, t)
+    by Unlisted = refl
 
-module _ (u : Setup) (s : List ℕ) where
-  abbrev pub placeByLength : ℕ
-  placeByLength = lengthOf u - 4 - 2 * u .termination
+-- ---- as the code tests it
 
-  abbrev pub inCodeOrder : Bool
-  inCodeOrder =
-      not (eqb (lengthOf u) 0 || ltb 1 (u .termination) || not (eqb (length s) (lengthOf u))) &&
-      not (not (eqb (getD s 0 0) (u .identifier)) || not (endingRight (u .termination) (placeByLength + 4) s)) &&
-      checkRight placeByLength s
+-- two bytes at the end of a list
+pub two-left : (s : List ℕ) (n : ℕ) → length s ≡ n + 2 → drop n s ≡ getD s n 0 ∷ getD s (n + 1) 0 ∷ []
+two-left s n e =
+    sym (take-all 2 (drop n s) (omega (arith, length-drop n s))) ∙ sym (window-within 2 n s (omega arith)) ∙ two-bytes n s
 
-  pub tested : acceptable u s ≡ inCodeOrder
-  unfolding acceptable lengthOf
-  tested = by (layoutOf (u .identifier)) refl
-    where
-      by : (f : Found) → layoutOf (u .identifier) ≡ f → acceptable u s ≡ inCodeOrder
-      by (Listed l) e =
-          let t : isListed (layoutOf (u .identifier)) ≡ true = rw e in
-          let k = listed-length u t in
-          let p : placeByLength ≡ checkPlace (u .identifier) = omega arith in
-          let n : eqb (lengthOf u) 0 ≡ false = ne-eqb (lengthOf u) 0 (λ z. omega arith) in
-          rw (t, n, p, few (u .termination))
-          (in-order (ltb 1 (u .termination)) (eqb (length s) (lengthOf u)) (eqb (getD s 0 0) (u .identifier))
-          (endingRight (u .termination) (checkPlace (u .identifier) + 4) s) (checkRight (checkPlace (u .identifier)) s))
-      by Unlisted e = rw e
+and-true : (a b : Bool) → (a && (b && true)) ≡ (a && b)
+and-true a true = refl
+and-true a false = refl
 
-  -- what the first tests leave
-  pub long-enough : (eqb (lengthOf u) 0 || ltb 1 (u .termination) || not (eqb (length s) (lengthOf u))) ≡ false
-      → (18 + 2 * u .termination ≤ lengthOf u) × (length s ≡ lengthOf u)
-  unfolding lengthOf
-  long-enough e = by (layoutOf (u .identifier)) refl
-    where
-      by : (f : Found) → layoutOf (u .identifier) ≡ f → (18 + 2 * u .termination ≤ lengthOf u) × (length s ≡ lengthOf u)
-      by (Listed l) d =
-          let k = listed-length u (rw d) in
-          let n = or-split (eqb (lengthOf u) 0 || ltb 1 (u .termination)) (not (eqb (length s) (lengthOf u))) e .1 in
-          (omega arith, eqb-true (length s) (lengthOf u) (not-false (eqb (length s) (lengthOf u)) n))
-      by Unlisted d = let z : true ≡ false = rw d at e in let y : _≡_ {A = ℕ} 0 1 = cc in absurd (omega arith)
+module _ (r : Row) (s : List ℕ) where
+  -- the ending stands where a datagram without one ends
+  pub ending-bytes : length s ≡ lengthIn (layoutOf r true)
+      → endingRight (layoutOf r true) s
+      ≡ (eqb (getD s (lengthIn (layoutOf r false)) 0) 0x0D && eqb (getD s (lengthIn (layoutOf r false) + 1) 0) 0x0A)
+  unfolding endingRight
+  ending-bytes e =
+      let n = lengthIn (layoutOf r false) in
+      let h : bytes (partsOf r) + stim300 .width / 8 ≡ n = omega arith in
+      ap (λ bs. same bs (0x0D ∷ 0x0A ∷ [])) (ap (λ k. drop k s) h ∙ two-left s n (omega arith)) ∙ and-true (eqb (getD s n 0) 0x0D) (eqb (getD s (n + 1) 0) 0x0A)
+
+  pub ending-none : length s ≡ lengthIn (layoutOf r false) → endingRight (layoutOf r false) s ≡ true
+  unfolding endingRight
+  ending-none e = let h : length s ≤ bytes (partsOf r) + stim300 .width / 8 = omega arith in rw (drop-of-length-le s h)
+
+  pub check-bytes : bytes (partsOf r) + 4 ≤ length s
+      → checkRight (layoutOf r false) s
+      ≡ eqb (bigEndian (getD s (bytes (partsOf r)) 0 ∷ getD s (bytes (partsOf r) + 1) 0 ∷ getD s (bytes (partsOf r) + 2) 0 ∷ getD s (bytes (partsOf r) + 3) 0 ∷ []))
+      (check32 (take (bytes (partsOf r)) s))
+  unfolding checkRight stim300 check32
+  check-bytes h =
+      let n = bytes (partsOf r) in
+      ap (λ bs. eqb (bigEndian bs) (check32 (take n s))) (sym (window-within 4 n s h) ∙ four-bytes n s)
+
+in-order : (a b c d : Bool) → (a && b && c && d) ≡ (a && (not (not b || not c) && d))
+in-order false b c d = refl
+in-order true false c d = refl
+in-order true true false d = refl
+in-order true true true d = refl
+
+pub tested : (i : ℕ) (r : Row) (t : Bool) (s : List ℕ)
+    → acceptableIn i (layoutOf r t) s
+    ≡ (eqb (length s) (lengthIn (layoutOf r t)) && (not (not (eqb (getD s 0 0) i) || not (endingRight (layoutOf r t) s)) && checkRight (layoutOf r false) s))
+unfolding acceptableIn checkRight
+tested i r t s = in-order (eqb (length s) (lengthIn (layoutOf r t))) (eqb (getD s 0 0) i) (endingRight (layoutOf r t) s) (checkRight (layoutOf r false) s)

@@ -5,12 +5,11 @@ use mathlib.Core.List.{List, [], _∷_}
 use mathlib.Core.Path.{_≡_, refl}
 use lib.IntN.{pos}
 use Rattle.integers.specs.Bytes.{bigEndian, twosComplement, signedBytes}
-use Rattle.crc.specs.Check.{stim300, shift, shifts, byteStep, register, padding, padded, checkOf, check32}
-use Rattle.setup.specs.Layout.{partsAt, layoutOf}
-use Rattle.setup.specs.Setup.{lengthOf}
+use Rattle.crc.specs.Check.{stim300, shift, shifts, byteStep, register, padding, covered, checkOf, check32}
+use Rattle.setup.specs.Layout.{partsOf, rowAt, partsAt}
 use Rattle.setup.specs.declared.Setup.{Setup}
-use Rattle.wire.specs.Acceptable.{checkRight, endingRight, acceptable}
-use Rattle.wire.specs.Fields.{partsWithin, fieldsOfPart, fieldsOf}
+use Rattle.wire.specs.Acceptable.{checkRight, endingRight, acceptableIn, acceptable}
+use Rattle.wire.specs.Fields.{fieldsOfPart, fieldsOf}
 use Rattle.wire.proofs.FieldBytes.{zeroAxes}
 
 -- the first datagram of 01, The text line: gyro X 8388600, counter 2
@@ -23,7 +22,7 @@ exampleSetup = record { rate = 1000; identifier = 0x90; termination = 0; units =
 
 pub first-acceptable : acceptable exampleSetup first ≡ true
 unfolding
-    acceptable checkRight endingRight lengthOf layoutOf partsAt bigEndian check32 checkOf stim300 padded padding register byteStep shifts shift
+    acceptable acceptableIn checkRight endingRight rowAt partsOf bigEndian check32 checkOf stim300 covered padding register byteStep shifts shift
 first-acceptable = refl
 
 pub first-fields : fieldsOf 0x90 first
@@ -37,7 +36,7 @@ pub first-fields : fieldsOf 0x90 first
       counter = 2;
       latency = 0;
     }
-unfolding fieldsOf partsWithin fieldsOfPart partsAt signedBytes twosComplement bigEndian
+unfolding fieldsOf fieldsOfPart partsAt partsOf signedBytes twosComplement bigEndian
 first-fields = refl
 
 -- acceleration X is 1, and the gyro status in front of it, with all bits set, is no part of it
@@ -47,5 +46,5 @@ second =
     0x02 ∷ 0x00 ∷ 0x00 ∷ []
 
 pub status-apart : (fieldsOf 0x91 second .readings ≡ zeroAxes ∷ (pos 1 ∷ pos 0 ∷ pos 0 ∷ []) ∷ zeroAxes ∷ []) × (fieldsOf 0x91 second .statuses ≡ 0xFF ∷ 0 ∷ 0 ∷ [])
-unfolding fieldsOf partsWithin fieldsOfPart partsAt signedBytes twosComplement bigEndian
+unfolding fieldsOf fieldsOfPart partsAt partsOf signedBytes twosComplement bigEndian
 status-apart = (refl, refl)

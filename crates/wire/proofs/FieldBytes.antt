@@ -1,21 +1,32 @@
 -- Which bytes each field is: those behind the place of its part, by the widths of the fields in front of it (01, Layout by identifier).
-use Prim.Native.Nat.{ℕ, zero, suc, _+_, _*_, _≤_, _<_}
+use Prim.Native.Nat.{ℕ, zero, suc, _+_, _*_, _<_}
 use native.Mathlib.Nat.{add-zero}
 use native.Mathlib.Omega.{arith}
-use mathlib.Core.Bool.{Bool, true, false, _||_, cond}
-use mathlib.Core.List.{List, [], _∷_, _++_}
+use mathlib.Core.Bool.{true, false}
+use mathlib.Core.List.{List, [], _∷_}
 use mathlib.Core.Path.{_≡_, refl, ap, _∙_}
-use lib.Dec.{eqb, leb}
 use lib.IntN.{ℤ, pos}
-use lib.ListN.{length, getD, take, drop}
-use lib.Seq.{drop-drop}
-use borrow.Author.Tests.{le-leb, lt-leb}
+use lib.ListN.{length, getD, take}
 use Rattle.integers.specs.Bytes.{bigEndian, twosComplement, signedBytes}
-use Rattle.setup.specs.Layout.{Part, identifier, gyro, accelerometer, inclinometer, gyroTemperatures, accelerometerTemperatures, inclinometerTemperatures, aux, counter, latency, widths, sum, bytes, place, carries, offset, placed, Row, table, carriedParts, layout, lookUp, foundFrom, partsAt, layoutOf}
-use Rattle.setup.specs.Setup.{isListed}
-use Rattle.setup.specs.declared.Found.the-variants.{Unlisted}
-use Rattle.wire.specs.Fields.{Contents, groups, temperatureSets, partsWithin, cut, fieldsOfPart, signedField, unsignedField, axes, fieldsOf}
-use Rattle.wire.proofs.FieldPlaces.{cut-take, cut-field, one-byte, parts-unlisted}
+use Rattle.setup.specs.Layout.{Part, gyro, accelerometer, inclinometer, gyroTemperatures, accelerometerTemperatures, inclinometerTemperatures, aux, counter, latency, widths, sum, partsOf, partsAt, carries, offset, placed, rowAt}
+use Rattle.setup.specs.Setup.{rulingOn}
+use Rattle.setup.specs.Sensor.{sensorOf}
+use Rattle.setup.specs.declared.Row.{Row}
+use Rattle.setup.specs.declared.Listing.the-variants.{Listed}
+use Rattle.setup.specs.declared.Setup.{Setup}
+use Rattle.setup.specs.declared.Ruling.the-variants as ruling
+use Rattle.setup.proofs.Rows.{listed-parts}
+use Rattle.setup.proofs.Sensors.{sensor-row}
+use Rattle.wire.specs.Fields.{groups, temperatureSets, window, cut, fieldsOfPart, signedField, unsignedField, axes, contents, contentsOf, fieldsOf}
+use Rattle.wire.proofs.FieldPlaces.{cut-field, one-byte}
+
+-- the fields of a listed identifier are those of its row; so of an accepted setup they are those of its sensor's
+pub row-fields : (i : ℕ) {r : Row} (s : List ℕ) → rowAt i ≡ Listed r → fieldsOf i s ≡ contentsOf r s
+unfolding fieldsOf contentsOf
+row-fields i s e = ap (λ ps. contents ps s) (listed-parts i e)
+
+pub sensor-fields : (u : Setup) (s : List ℕ) → rulingOn u ≡ ruling.Accepted → fieldsOf (u .identifier) s ≡ contentsOf (sensorOf u .row) s
+sensor-fields u s ok = row-fields (u .identifier) s (sensor-row u ok)
 
 -- X, Y and Z are the first three fields
 axis-field : (fs : List (List ℕ)) (a : ℕ) → a < 3 → getD (axes fs) a (pos 0) ≡ signedField fs a
@@ -31,40 +42,34 @@ axis-widths w (suc zero) h = (refl, omega arith)
 axis-widths w (suc (suc zero)) h = (refl, omega arith)
 axis-widths w (suc (suc (suc a))) h = absurd (omega arith)
 
-module _ (i : ℕ) (s : List ℕ) (enough : bytes (partsAt i) ≤ length s) where
-  all-parts : partsWithin i (length s) ≡ partsAt i
-  unfolding partsWithin
-  all-parts = rw (le-leb (bytes (partsAt i)) (length s) enough)
-
+module _ (i : ℕ) (s : List ℕ) where
   module _ (p : Part) (c : carries (partsAt i) p ≡ true) where
     -- the field k of a part that is carried
     pub field-bytes : (k : ℕ) → k < length (widths p)
-        → getD (fieldsOfPart (partsWithin i (length s)) s p) k [] ≡ take (getD (widths p) k 0) (drop (placed (partsAt i) p + sum (take k (widths p))) s)
+        → getD (fieldsOfPart (partsAt i) s p) k [] ≡ window (getD (widths p) k 0) (placed (partsAt i) p + sum (take k (widths p))) s
     unfolding fieldsOfPart
-    field-bytes k h =
-        rw (all-parts, c, cut-take (widths p) (drop (offset (partsAt i) p) s), cut-field (widths p) k (drop (offset (partsAt i) p) s) h)
-        (ap (take (getD (widths p) k 0)) (drop-drop (sum (take k (widths p))) (offset (partsAt i) p) s))
+    field-bytes k h = rw c (cut-field (widths p) k (offset (partsAt i) p) s h)
 
-    first-field : 0 < length (widths p) → getD (fieldsOfPart (partsWithin i (length s)) s p) 0 [] ≡ take (getD (widths p) 0 0) (drop (placed (partsAt i) p) s)
-    first-field h = field-bytes 0 h ∙ ap (λ n. take (getD (widths p) 0 0) (drop n s)) (add-zero (placed (partsAt i) p))
+    first-field : 0 < length (widths p) → getD (fieldsOfPart (partsAt i) s p) 0 [] ≡ window (getD (widths p) 0 0) (placed (partsAt i) p) s
+    first-field h = field-bytes 0 h ∙ ap (λ n. window (getD (widths p) 0 0) n s) (add-zero (placed (partsAt i) p))
 
     -- a field of one byte
     byte-field : (k : ℕ) → k < length (widths p) → getD (widths p) k 0 ≡ 1
-        → unsignedField (fieldsOfPart (partsWithin i (length s)) s p) k ≡ getD s (placed (partsAt i) p + sum (take k (widths p))) 0
+        → unsignedField (fieldsOfPart (partsAt i) s p) k ≡ getD s (placed (partsAt i) p + sum (take k (widths p))) 0
     byte-field k h e = rw (field-bytes k h, e) (one-byte s (placed (partsAt i) p + sum (take k (widths p))))
 
     -- the axis a of a part of three fields of w bytes and a status
     axis-bytes : (w : ℕ) → widths p ≡ w ∷ w ∷ w ∷ 1 ∷ [] → (a : ℕ) → a < 3
-        → getD (axes (fieldsOfPart (partsWithin i (length s)) s p)) a (pos 0) ≡ signedBytes (take w (drop (placed (partsAt i) p + w * a) s))
+        → getD (axes (fieldsOfPart (partsAt i) s p)) a (pos 0) ≡ signedBytes (window w (placed (partsAt i) p + w * a) s)
     axis-bytes w e a h =
         let ws = axis-widths w a h in
         let l : a < length (widths p) = rw e (omega arith) in
-        let f : getD (fieldsOfPart (partsWithin i (length s)) s p) a [] ≡ take w (drop (placed (partsAt i) p + w * a) s) = rw (e, ws .0, ws .1) at (field-bytes a l) in
-        axis-field (fieldsOfPart (partsWithin i (length s)) s p) a h ∙ ap signedBytes f
+        let f : getD (fieldsOfPart (partsAt i) s p) a [] ≡ window w (placed (partsAt i) p + w * a) s = rw (e, ws .0, ws .1) at (field-bytes a l) in
+        axis-field (fieldsOfPart (partsAt i) s p) a h ∙ ap signedBytes f
 
   -- group g, counted from 0: axis a in the three bytes from 3 × a on, the status in the byte 9
   pub reading-bytes : (g a : ℕ) → g < 3 → a < 3 → carries (partsAt i) (getD groups g gyro) ≡ true
-      → getD (getD (fieldsOf i s .readings) g []) a (pos 0) ≡ signedBytes (take 3 (drop (placed (partsAt i) (getD groups g gyro) + 3 * a) s))
+      → getD (getD (fieldsOf i s .readings) g []) a (pos 0) ≡ signedBytes (window 3 (placed (partsAt i) (getD groups g gyro) + 3 * a) s)
   unfolding fieldsOf
   reading-bytes zero a g h c = axis-bytes gyro c 3 refl a h
   reading-bytes (suc zero) a g h c = axis-bytes accelerometer c 3 refl a h
@@ -82,7 +87,7 @@ module _ (i : ℕ) (s : List ℕ) (enough : bytes (partsAt i) ≤ length s) wher
   -- its temperature set: axis a in the two bytes from 2 × a on, the status in the byte 6
   pub temperature-bytes : (g a : ℕ) → g < 3 → a < 3 → carries (partsAt i) (getD temperatureSets g gyroTemperatures) ≡ true
       → getD (getD (fieldsOf i s .temperatures) g []) a (pos 0)
-      ≡ signedBytes (take 2 (drop (placed (partsAt i) (getD temperatureSets g gyroTemperatures) + 2 * a) s))
+      ≡ signedBytes (window 2 (placed (partsAt i) (getD temperatureSets g gyroTemperatures) + 2 * a) s)
   unfolding fieldsOf
   temperature-bytes zero a g h c = axis-bytes gyroTemperatures c 2 refl a h
   temperature-bytes (suc zero) a g h c = axis-bytes accelerometerTemperatures c 2 refl a h
@@ -99,7 +104,7 @@ module _ (i : ℕ) (s : List ℕ) (enough : bytes (partsAt i) ≤ length s) wher
 
   -- AUX: three bytes and a status
   pub aux-bytes : carries (partsAt i) aux ≡ true
-      → (fieldsOf i s .aux ≡ signedBytes (take 3 (drop (placed (partsAt i) aux) s)))
+      → (fieldsOf i s .aux ≡ signedBytes (window 3 (placed (partsAt i) aux) s))
       × (fieldsOf i s .auxStatus ≡ getD s (placed (partsAt i) aux + 3) 0)
   unfolding fieldsOf
   aux-bytes c = (ap signedBytes (first-field aux c (omega arith)), byte-field aux c 1 (omega arith) refl)
@@ -109,50 +114,15 @@ module _ (i : ℕ) (s : List ℕ) (enough : bytes (partsAt i) ≤ length s) wher
   unfolding fieldsOf
   counter-byte c = ap bigEndian (first-field counter c (omega arith)) ∙ one-byte s (placed (partsAt i) counter)
 
-  pub latency-bytes : carries (partsAt i) latency ≡ true → fieldsOf i s .latency ≡ bigEndian (take 2 (drop (placed (partsAt i) latency) s))
+  pub latency-bytes : carries (partsAt i) latency ≡ true → fieldsOf i s .latency ≡ bigEndian (window 2 (placed (partsAt i) latency) s)
   unfolding fieldsOf
   latency-bytes c = ap bigEndian (first-field latency c (omega arith))
 
--- ---- what isn't there
+-- ---- what isn't carried has no fields, so that its values are 0
 
--- every listed identifier carries the counter and the latency
-or-right : (a b : Bool) → b ≡ true → (a || b) ≡ true
-or-right true b e = refl
-or-right false b e = e
-
-last-two : (ps : List Part) → (carries (ps ++ counter ∷ latency ∷ []) counter ≡ true) × (carries (ps ++ counter ∷ latency ∷ []) latency ≡ true)
-last-two [] = (refl, refl)
-last-two (p ∷ ps) =
-    let r = last-two ps in (
-      or-right (eqb (place counter) (place p)) (carries (ps ++ counter ∷ latency ∷ []) counter) (r .0),
-      or-right (eqb (place latency) (place p)) (carries (ps ++ counter ∷ latency ∷ []) latency) (r .1),
-    )
-
-abbrev Tailed : List Part → Type 0
-Tailed ps = (carries ps counter ≡ true) × (carries ps latency ≡ true)
-
-tailed : (rs : List Row) (i : ℕ) → isListed (foundFrom (lookUp rs i)) ≡ true → Tailed (lookUp rs i)
-tailed [] i e = let z : _≡_ {A = ℕ} 0 1 = cc in absurd (omega arith)
-tailed (r ∷ rs) i e = by (eqb i (r .identifier)) (tailed rs i) e
-  where
-    by : (b : Bool) → (isListed (foundFrom (lookUp rs i)) ≡ true → Tailed (lookUp rs i))
-        → isListed (foundFrom (cond b (layout (r .carries)) (lookUp rs i))) ≡ true → Tailed (cond b (layout (r .carries)) (lookUp rs i))
-    by true f e = last-two (identifier ∷ carriedParts (r .carries) (r .carries))
-    by false f e = f e
-
-pub always-carried : (i : ℕ) → isListed (layoutOf i) ≡ true → (carries (partsAt i) counter ≡ true) × (carries (partsAt i) latency ≡ true)
-unfolding layoutOf partsAt
-always-carried i e = tailed table i e
-
--- a part that isn't carried has no fields, so that its values are 0
-pub absent-part : (i : ℕ) (s : List ℕ) (p : Part) → carries (partsAt i) p ≡ false → fieldsOfPart (partsWithin i (length s)) s p ≡ []
-unfolding fieldsOfPart partsWithin
-absent-part i s p e = by (leb (bytes (partsAt i)) (length s))
-  where
-    by : (b : Bool)
-        → cond (carries (cond b (partsAt i) []) p) (cut (widths p) (take (sum (widths p)) (drop (offset (cond b (partsAt i) []) p) s))) [] ≡ []
-    by true = rw e
-    by false = refl
+pub absent-part : (i : ℕ) (s : List ℕ) (p : Part) → carries (partsAt i) p ≡ false → fieldsOfPart (partsAt i) s p ≡ []
+unfolding fieldsOfPart
+absent-part i s p e = rw e
 
 abbrev pub zeroAxes : List ℤ
 zeroAxes = pos 0 ∷ pos 0 ∷ pos 0 ∷ []
@@ -176,28 +146,3 @@ absent-temperatures i s (suc (suc (suc g))) h e = absurd (omega arith)
 pub absent-aux : (i : ℕ) (s : List ℕ) → carries (partsAt i) aux ≡ false → (fieldsOf i s .aux ≡ pos 0) × (fieldsOf i s .auxStatus ≡ 0)
 unfolding fieldsOf signedBytes twosComplement bigEndian
 absent-aux i s e = rw (absent-part i s aux e) (refl, refl)
-
--- of an identifier that isn't in the table, and of bytes that end before the check, all is 0
-abbrev pub zeroContents : Contents
-zeroContents =
-    record {
-      readings = zeroAxes ∷ zeroAxes ∷ zeroAxes ∷ [];
-      statuses = 0 ∷ 0 ∷ 0 ∷ [];
-      temperatures = zeroAxes ∷ zeroAxes ∷ zeroAxes ∷ [];
-      temperatureStatuses = 0 ∷ 0 ∷ 0 ∷ [];
-      aux = pos 0;
-      auxStatus = 0;
-      counter = 0;
-      latency = 0;
-    }
-
-no-parts : (i : ℕ) (s : List ℕ) → partsWithin i (length s) ≡ [] → fieldsOf i s ≡ zeroContents
-unfolding fieldsOf fieldsOfPart signedBytes twosComplement bigEndian
-no-parts i s e = rw e
-
-pub unlisted-zeros : (i : ℕ) (s : List ℕ) → layoutOf i ≡ Unlisted → fieldsOf i s ≡ zeroContents
-unlisted-zeros i s e = no-parts i s (parts-unlisted i (length s) e)
-
-pub short-zeros : (i : ℕ) (s : List ℕ) → length s < bytes (partsAt i) → fieldsOf i s ≡ zeroContents
-unfolding partsWithin
-short-zeros i s h = no-parts i s (rw (lt-leb (bytes (partsAt i)) (length s) h))

@@ -1,18 +1,19 @@
 -- Every field of bytes fits its width: readings and AUX 24 bits, temperatures 16, the latency 16 without sign, statuses and counter a byte.
-use Prim.Native.Nat.{ℕ, zero, suc, _*_, _^_, _≤_, _<_}
+use Prim.Native.Nat.{ℕ, zero, suc, _+_, _*_, _^_, _≤_, _<_}
 use native.Mathlib.Omega.{arith}
 use mathlib.Core.Bool.{Bool, true, false, cond}
 use mathlib.Core.List.{List, [], _∷_}
 use mathlib.Core.Path.{_≡_, refl}
 use lib.IntN.{ℤ, pos}
-use lib.ListN.{length, getD, take, drop, length-take}
+use lib.ListN.{length, getD}
 use lib.Pow.{pow-mono}
 use Rattle.integers.specs.Bytes.{AllBytes, bigEndian, signedBytes}
 use Rattle.integers.proofs.Parts.{posPart, negPart}
-use Rattle.integers.proofs.Bytes.{bytes-nil, bytes-take, bytes-drop, bigEndian-below, signedBytes-range}
+use Rattle.integers.proofs.Bytes.{bytes-nil, bigEndian-below, signedBytes-range}
 use Rattle.integers.proofs.Folding.{InRange}
-use Rattle.setup.specs.Layout.{Part, gyro, accelerometer, inclinometer, gyroTemperatures, accelerometerTemperatures, inclinometerTemperatures, aux, counter, latency, widths, size, carries, offset}
-use Rattle.wire.specs.Fields.{Contents, partsWithin, cut, fieldsOfPart, signedField, unsignedField, axes, fieldsOf}
+use Rattle.setup.specs.Layout.{Part, gyro, accelerometer, inclinometer, gyroTemperatures, accelerometerTemperatures, inclinometerTemperatures, aux, counter, latency, widths, partsAt, carries, offset}
+use Rattle.wire.proofs.FieldPlaces.{window-length, window-bytes}
+use Rattle.wire.specs.Fields.{Contents, cut, fieldsOfPart, signedField, unsignedField, axes, fieldsOf}
 
 -- -32768 ≤ x ≤ 32767
 pub record InTemperature (x : ℤ) : Type 0 where
@@ -20,9 +21,9 @@ pub record InTemperature (x : ℤ) : Type 0 where
   pub below : posPart x < 32768
 
 -- at most n bytes
-pub record Narrow (n : ℕ) (bs : List ℕ) : Type 0 where
-  pub few : length bs ≤ n
-  pub bytes : AllBytes bs
+record Narrow (n : ℕ) (bs : List ℕ) : Type 0 where
+  few : length bs ≤ n
+  bytes : AllBytes bs
 
 power-few : (n : ℕ) (bs : List ℕ) → Narrow n bs → 2 ^ (8 * length bs) ≤ 2 ^ (8 * n)
 power-few n bs h = let l : 8 * length bs ≤ 8 * n = let f = h .few in omega arith in pow-mono l
@@ -43,10 +44,10 @@ temperature-narrow bs h =
     record { above = omega arith; below = omega arith }
 
 -- a field of a part is at most as wide as the part says
-cut-narrow : (ws : List ℕ) (k : ℕ) (l : List ℕ) → AllBytes l → Narrow (getD ws k 0) (getD (cut ws l) k [])
-cut-narrow [] k l h = record { few = omega arith; bytes = bytes-nil }
-cut-narrow (w ∷ ws) zero l h = record { few = omega (arith, length-take w l); bytes = bytes-take w h }
-cut-narrow (w ∷ ws) (suc k) l h = cut-narrow ws k (drop w l) (bytes-drop w h)
+cut-narrow : (ws : List ℕ) (k at : ℕ) {s : List ℕ} → AllBytes s → Narrow (getD ws k 0) (getD (cut ws at s) k [])
+cut-narrow [] k at h = record { few = omega arith; bytes = bytes-nil }
+cut-narrow (w ∷ ws) zero at {s} h = record { few = omega (arith, window-length w at s); bytes = window-bytes w at h }
+cut-narrow (w ∷ ws) (suc k) at h = cut-narrow ws k (at + w) h
 
 -- what holds of three and of the default holds at every place
 at-three : {A : Type 0} (P : A → Type 0) (x y z d : A) → P x → P y → P z → P d → (k : ℕ) → P (getD (x ∷ y ∷ z ∷ []) k d)
@@ -60,8 +61,8 @@ module _ (ps : List Part) (s : List ℕ) (h : AllBytes s) where
   unfolding fieldsOfPart
   field-narrow p k = by (carries ps p)
     where
-      by : (b : Bool) → Narrow (getD (widths p) k 0) (getD (cond b (cut (widths p) (take (size p) (drop (offset ps p) s))) []) k [])
-      by true = cut-narrow (widths p) k (take (size p) (drop (offset ps p) s)) (bytes-take (size p) (bytes-drop (offset ps p) h))
+      by : (b : Bool) → Narrow (getD (widths p) k 0) (getD (cond b (cut (widths p) (offset ps p) s) []) k [])
+      by true = cut-narrow (widths p) k (offset ps p) h
       by false = record { few = omega arith; bytes = bytes-nil }
 
   group-range : (p : Part) → widths p ≡ 3 ∷ 3 ∷ 3 ∷ 1 ∷ [] → (a : ℕ) → InRange (getD (axes (fieldsOfPart ps s p)) a (pos 0))
@@ -92,7 +93,7 @@ pub record Fitting (d : Contents) : Type 0 where
 pub fields-fit : (i : ℕ) (s : List ℕ) → AllBytes s → Fitting (fieldsOf i s)
 unfolding fieldsOf
 fields-fit i s h =
-    let ps = partsWithin i (length s) in
+    let ps = partsAt i in
     let group = group-range ps s h in
     let set = temperatures-range ps s h in
     let byte : (p : Part) (k : ℕ) → getD (widths p) k 0 ≡ 1 → unsignedField (fieldsOfPart ps s p) k < 256 = λ p k e. unsigned-range ps s h p k 1 e in

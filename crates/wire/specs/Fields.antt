@@ -1,12 +1,12 @@
 -- 01, Layout by identifier: the fields of a datagram, read off the list of its parts with their widths.
-use Prim.Native.Nat.{ℕ}
+use Prim.Native.Nat.{ℕ, zero, suc, _+_}
 use mathlib.Core.Bool.{cond}
 use mathlib.Core.List.{List, [], _∷_, map}
-use lib.Dec.{leb}
 use lib.IntN.{ℤ}
-use lib.ListN.{length, getD, take, drop}
+use lib.ListN.{getD}
 use Rattle.integers.specs.Bytes.{bigEndian, signedBytes}
-use Rattle.setup.specs.Layout.{Part, gyro, accelerometer, inclinometer, gyroTemperatures, accelerometerTemperatures, inclinometerTemperatures, aux, counter, latency, widths, size, bytes, carries, offset, partsAt}
+use Rattle.setup.specs.Layout.{Part, gyro, accelerometer, inclinometer, gyroTemperatures, accelerometerTemperatures, inclinometerTemperatures, aux, counter, latency, widths, partsOf, partsAt, carries, offset}
+use Rattle.setup.specs.declared.Row.{Row}
 use Rattle.wire.specs.declared.Fields.{Fields}
 
 -- the groups, and their temperature sets, in 01's order
@@ -16,18 +16,19 @@ groups = gyro ∷ accelerometer ∷ inclinometer ∷ []
 abbrev pub temperatureSets : List Part
 temperatureSets = gyroTemperatures ∷ accelerometerTemperatures ∷ inclinometerTemperatures ∷ []
 
--- the parts that stand in n bytes: none if the identifier isn't in the table, or if the bytes before the check aren't all there
-unfoldable pub partsWithin : ℕ → ℕ → List Part
-partsWithin identifier n = cond (leb (bytes (partsAt identifier)) n) (partsAt identifier) []
+-- n bytes of a list from a place on; what lies beyond its end counts as 0
+abbrev pub window : ℕ → ℕ → List ℕ → List ℕ
+window zero at s = []
+window (suc n) at s = getD s at 0 ∷ window n (suc at) s
 
--- bytes cut into fields of the given widths, one behind the other
-abbrev pub cut : List ℕ → List ℕ → List (List ℕ)
-cut [] s = []
-cut (w ∷ ws) s = take w s ∷ cut ws (drop w s)
+-- fields of the given widths from a place on, one behind the other
+abbrev pub cut : List ℕ → ℕ → List ℕ → List (List ℕ)
+cut [] at s = []
+cut (w ∷ ws) at s = window w at s ∷ cut ws (at + w) s
 
--- the fields of a part: its own bytes, cut by its widths, so that no field reaches into another part; a part that isn't carried has none
+-- the fields of a part, by its widths from where it begins; a part that isn't carried has none
 unfoldable pub fieldsOfPart : List Part → List ℕ → Part → List (List ℕ)
-fieldsOfPart ps s p = cond (carries ps p) (cut (widths p) (take (size p) (drop (offset ps p) s))) []
+fieldsOfPart ps s p = cond (carries ps p) (cut (widths p) (offset ps p) s) []
 
 -- a field by its number in the part; one that isn't there has no bytes, whose value is 0
 abbrev pub signedField : List (List ℕ) → ℕ → ℤ
@@ -67,8 +68,12 @@ contents ps s =
       latency = unsignedField (fieldsOfPart ps s latency) 0;
     }
 
+-- by the row of a datagram, and by its identifier; of one that isn't in the table all is 0
+unfoldable pub contentsOf : Row → List ℕ → Contents
+contentsOf r s = contents (partsOf r) s
+
 unfoldable pub fieldsOf : ℕ → List ℕ → Contents
-fieldsOf identifier s = contents (partsWithin identifier (length s)) s
+fieldsOf identifier s = contents (partsAt identifier) s
 
 -- the same as the code has it, where the readings are a grid of their own
 abbrev pub besidesReadings : Contents → Fields

@@ -1,17 +1,23 @@
--- The fields of a part by the place where it begins, as the code reads them. A part that isn't carried has the place 0.
-use Prim.Native.Nat.{ℕ, _+_, _≤_, _<_}
+-- The places of the parts of a row, and the fields of a part by the place where it begins, as the code has them.
+use Prim.Native.Nat.{ℕ, _+_}
 use mathlib.Core.Bool.{cond}
-use mathlib.Core.List.{List, [], _∷_}
+use mathlib.Core.List.{List, [], _∷_, _++_}
 use lib.Dec.{ltb}
-use lib.ListN.{length, getD, drop}
+use lib.ListN.{getD}
+use Rattle.setup.specs.Layout.{identifier, bytes, groupParts, temperatureParts}
+use Rattle.setup.specs.declared.Row.{Row}
 use Rattle.wire.specs.Fields.{cut}
 
-unfoldable pub fieldsAt : List ℕ → ℕ → List ℕ → List (List ℕ)
-fieldsAt ws place s = cond (ltb 0 place) (cut ws (drop place s)) []
+-- where the groups end, and where the temperature sets end
+unfoldable pub groupsEnd : Row → ℕ
+groupsEnd r = bytes (identifier ∷ groupParts r)
 
--- a part of n bytes that begins at `place` is whole
-abbrev pub Whole : ℕ → ℕ → List ℕ → Type 0
-Whole n place s = 0 < place → place + n ≤ length s
+unfoldable pub temperaturesEnd : Row → ℕ
+temperaturesEnd r = bytes (identifier ∷ groupParts r ++ temperatureParts r)
+
+-- the fields of a part; one that isn't carried has the place 0
+unfoldable pub fieldsAt : List ℕ → ℕ → List ℕ → List (List ℕ)
+fieldsAt ws place s = cond (ltb 0 place) (cut ws place s) []
 
 -- the byte `skipped` bytes into the part
 unfoldable pub byteAt : ℕ → ℕ → List ℕ → ℕ

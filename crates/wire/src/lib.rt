@@ -1,18 +1,17 @@
 // What stands in a datagram: whether it is acceptable, and its fields (01, Layout by identifier, The check, The scan).
-use setup::Found;
-use setup::Layout;
-use setup::Setup;
+use setup::Row;
 ghost use mathlib.Core.Path.{_≡_};
+ghost use mathlib.Core.Bool.{false, cond};
 ghost use mathlib.Core.List.{[], _∷_, map};
-ghost use Prim.Native.Nat.{_+_, _*_, _≤_};
-ghost use lib.ListN.{length, getD, take, drop};
+ghost use Prim.Native.Nat.{_+_, _≤_};
+ghost use lib.ListN.{length, getD};
 ghost use Rattle.integers.specs.Bytes.{bigEndian, signedBytes};
-ghost use Rattle.setup.specs.Layout.{widths, gyro, gyroTemperatures, aux, counter, latency, placed, layoutFrom};
-ghost use Rattle.wire.specs.Acceptable.{checkRight, endingRight, acceptable};
-ghost use Rattle.wire.specs.Fields.{groups, temperatureSets, partsWithin, signedField, unsignedField, axes, fieldsOf, besidesReadings};
-ghost use Rattle.wire.specs.Places.{fieldsAt, byteAt, bytesAt, Whole};
+ghost use Rattle.setup.specs.Layout.{aux, counter, widths, bytes, partsOf, layoutOf, lengthIn, placed};
+ghost use Rattle.wire.specs.Acceptable.{checkRight, endingRight, acceptableIn};
+ghost use Rattle.wire.specs.Fields.{groups, temperatureSets, window, signedField, axes, contentsOf, besidesReadings};
+ghost use Rattle.wire.specs.Places.{groupsEnd, temperaturesEnd, fieldsAt, byteAt, bytesAt};
 
-// What stands in a datagram beside its readings; 0 for what the identifier doesn't carry.
+// What stands in a datagram beside its readings; 0 for what it doesn't carry.
 pub struct Fields {
     // gyro, accelerometer, inclinometer
     pub statuses: [u8; 3],
@@ -27,151 +26,211 @@ pub struct Fields {
     pub latency: u16,
 }
 
-// Four bytes as an unsigned number, as the check is sent.
-fn check_of(first: u8, second: u8, third: u8, fourth: u8) -> u32
-    ensures { λ r. ⌜ r ≡ bigEndian (first ∷ second ∷ third ∷ fourth ∷ []) ⌝ }
+// Bytes of the identifier, a group, a temperature set, AUX, the counter, the latency, the check and the ending.
+const IDENTIFIER: usize = 1;
+
+const GROUP: usize = 10;
+
+const TEMPERATURES: usize = 7;
+
+const AUX: usize = 4;
+
+const COUNTER: usize = 1;
+
+const LATENCY: usize = 2;
+
+const CHECK: usize = 4;
+
+const ENDING: usize = 2;
+
+// A place or a size, 0 for what isn't carried.
+fn if_carried(carried: bool, bytes: usize) -> usize
+    ensures { λ r. ⌜ (r ≡ cond carried bytes 0) × (r ≤ bytes) ⌝ }
 {
-    first as u32 * 16777216 + second as u32 * 65536 + third as u32 * 256 + fourth as u32
+    if carried { bytes } else { 0 }
 }
 
-// The four bytes at `place` are the check of those before them.
-fn check_right(s: &[u8], place: usize) -> bool
-    requires { ⌜ place + 4 ≤ length (now s) ⌝ }
-    ensures { λ r. ⌜ r ≡ checkRight place (now (s .entry)) ⌝ }
+// Where the groups begin.
+fn group_places(row: Row) -> [usize; 3]
+    ensures { λ r. ⌜ r ≡ map (placed (partsOf row)) groups ⌝ }
 {
-    let sent = check_of(s[place], s[place + 1], s[place + 2], s[place + 3]);
-    sent == crc::crc32(&s[..place])
+    let second = IDENTIFIER + GROUP;
+    let third = second + if_carried(row.acceleration, GROUP);
+    [
+        IDENTIFIER,
+        if_carried(row.acceleration, second),
+        if_carried(row.inclination, third),
+    ]
 }
 
-// With termination 1, 0x0D 0x0A stand at `place`.
-fn ending_right(s: &[u8], termination: u16, place: usize) -> bool
-    requires { ⌜ place + 2 * termination ≤ length (now s) ⌝ }
-    ensures { λ r. ⌜ r ≡ endingRight termination place (now (s .entry)) ⌝ }
+// Where the groups end.
+fn groups_end(row: Row) -> usize
+    ensures { λ r. ⌜ r ≡ groupsEnd row ⌝ }
 {
-    if termination == 1 {
+    IDENTIFIER + GROUP + if_carried(row.acceleration, GROUP) + if_carried(row.inclination, GROUP)
+}
+
+// Where the temperature sets begin.
+fn temperature_places(row: Row) -> [usize; 3]
+    ensures { λ r. ⌜ r ≡ map (placed (partsOf row)) temperatureSets ⌝ }
+{
+    let first = groups_end(row);
+    let second = first + TEMPERATURES;
+    let third = second + if_carried(row.acceleration, TEMPERATURES);
+    [
+        if_carried(row.temperatures, first),
+        if_carried(row.temperatures & row.acceleration, second),
+        if_carried(row.temperatures & row.inclination, third),
+    ]
+}
+
+// Where the temperature sets end.
+fn temperatures_end(row: Row) -> usize
+    ensures { λ r. ⌜ r ≡ temperaturesEnd row ⌝ }
+{
+    let sets = TEMPERATURES
+        + if_carried(row.acceleration, TEMPERATURES)
+        + if_carried(row.inclination, TEMPERATURES);
+    groups_end(row) + if_carried(row.temperatures, sets)
+}
+
+fn aux_place(row: Row) -> usize
+    ensures { λ r. ⌜ r ≡ placed (partsOf row) aux ⌝ }
+{
+    if_carried(row.aux, temperatures_end(row))
+}
+
+fn counter_place(row: Row) -> usize
+    ensures { λ r. ⌜ r ≡ placed (partsOf row) counter ⌝ }
+{
+    temperatures_end(row) + if_carried(row.aux, AUX)
+}
+
+// The check stands behind the latency.
+fn check_place(row: Row) -> usize
+    ensures { λ r. ⌜ r ≡ bytes (partsOf row) ⌝ }
+{
+    counter_place(row) + COUNTER + LATENCY
+}
+
+// The length L of a datagram.
+pub fn length_of(row: Row, terminated: bool) -> usize
+    ensures { λ r. ⌜ r ≡ lengthIn (layoutOf row terminated) ⌝ }
+{
+    check_place(row) + CHECK + if_carried(terminated, ENDING)
+}
+
+// The bytes behind the check are right: 0x0D 0x0A, or none.
+fn ending_right(row: Row, terminated: bool, s: &[u8]) -> bool
+    requires { ⌜ length (now s) ≡ lengthIn (layoutOf row terminated) ⌝ }
+    ensures { λ r. ⌜ r ≡ endingRight (layoutOf row terminated) (now (s .entry)) ⌝ }
+{
+    if terminated {
+        let place = length_of(row, false);
         (s[place] == 0x0D) & (s[place + 1] == 0x0A)
     } else {
         true
     }
 }
 
-// Whether bytes are an acceptable datagram of a setup. What is cheap is tested before the check is computed.
-pub fn is_acceptable(setup: Setup, s: &[u8]) -> bool
-    ensures { λ r. ⌜ r ≡ acceptable setup (now (s .entry)) ⌝ }
+// The bytes of the check are the check of those before them; the ending doesn't matter here.
+fn check_right(row: Row, s: &[u8]) -> bool
+    requires { ⌜ lengthIn (layoutOf row false) ≤ length (now s) ⌝ }
+    ensures { λ r. ⌜ r ≡ checkRight (layoutOf row false) (now (s .entry)) ⌝ }
 {
-    let identifier = setup.identifier;
-    let termination = setup.termination;
-    let length = setup::length_of(setup);
-    // an identifier that isn't in the table has length 0
-    if (length == 0) | (1 < termination) | (s.len() != length) {
+    let place = check_place(row);
+    let sent = integers::four_bytes_of(s[place], s[place + 1], s[place + 2], s[place + 3]);
+    sent == crc::crc32(&s[..place])
+}
+
+// Whether bytes are an acceptable datagram. What is cheap is tested before the check is computed.
+pub fn is_acceptable(identifier: u8, row: Row, terminated: bool, s: &[u8]) -> bool
+    ensures { λ r. ⌜ r ≡ acceptableIn identifier (layoutOf row terminated) (now (s .entry)) ⌝ }
+{
+    if s.len() != length_of(row, terminated) {
         return false;
     }
-    let check_place = length - 4 - 2 * termination as usize;
-    if (s[0] != identifier) | !ending_right(s, termination, check_place + 4) {
+    if (s[0] != identifier) | !ending_right(row, terminated, s) {
         return false;
     }
-    check_right(s, check_place)
+    check_right(row, s)
 }
 
-// The layout of a datagram without parts.
-fn no_parts() -> Layout
-    ensures { λ r. ⌜ r ≡ layoutFrom [] ⌝ }
+fn byte_or_zero(s: &[u8], at: usize) -> u8
+    ensures { λ r. ⌜ r ≡ getD (now (s .entry)) at 0 ⌝ }
 {
-    Layout {
-        gyro: 0,
-        accelerometer: 0,
-        inclinometer: 0,
-        gyro_temperatures: 0,
-        accelerometer_temperatures: 0,
-        inclinometer_temperatures: 0,
-        aux: 0,
-        counter: 0,
-        latency: 0,
-        before: 0,
-    }
+    if at < s.len() { s[at] } else { 0 }
 }
 
-// Where the parts begin that stand in so many bytes.
-fn layout_within(identifier: u8, length: usize) -> Layout
-    ensures { λ r. ⌜ r ≡ layoutFrom (partsWithin identifier length) ⌝ }
-{
-    let found = setup::layout_of(identifier);
-    match found {
-        Found::Listed(layout) => {
-            if layout.before <= length {
-                layout
-            } else {
-                no_parts()
-            }
-        }
-        Found::Unlisted => no_parts(),
-    }
-}
-
-fn group_places(identifier: u8, length: usize) -> [usize; 3]
-    ensures { λ r. ⌜ r ≡ map (placed (partsWithin identifier length)) groups ⌝ }
-{
-    let layout = layout_within(identifier, length);
-    [layout.gyro, layout.accelerometer, layout.inclinometer]
-}
-
-fn temperature_places(identifier: u8, length: usize) -> [usize; 3]
-    ensures { λ r. ⌜ r ≡ map (placed (partsWithin identifier length)) temperatureSets ⌝ }
-{
-    let layout = layout_within(identifier, length);
-    [
-        layout.gyro_temperatures,
-        layout.accelerometer_temperatures,
-        layout.inclinometer_temperatures,
-    ]
-}
-
+// Three bytes of a reading. Bytes beyond the end read as 0, here and below; where there are none, one test is enough.
 fn reading_at(s: &[u8], at: usize) -> i32
-    requires { ⌜ at + 3 ≤ length (now s) ⌝ }
-    ensures { λ r. ⌜ r ≡ signedBytes (take 3 (drop at (now (s .entry)))) ⌝ }
+    requires { ⌜ at ≤ 65 ⌝ }
+    ensures { λ r. ⌜ r ≡ signedBytes (window 3 at (now (s .entry))) ⌝ }
 {
-    integers::reading_of(s[at], s[at + 1], s[at + 2])
+    if at + 2 < s.len() {
+        integers::reading_of(s[at], s[at + 1], s[at + 2])
+    } else {
+        integers::reading_of(
+            byte_or_zero(s, at),
+            byte_or_zero(s, at + 1),
+            byte_or_zero(s, at + 2),
+        )
+    }
 }
 
 fn temperature_at(s: &[u8], at: usize) -> i32
-    requires { ⌜ at + 2 ≤ length (now s) ⌝ }
-    ensures { λ r. ⌜ r ≡ signedBytes (take 2 (drop at (now (s .entry)))) ⌝ }
+    requires { ⌜ at ≤ 65 ⌝ }
+    ensures { λ r. ⌜ r ≡ signedBytes (window 2 at (now (s .entry))) ⌝ }
 {
-    integers::temperature_of(s[at], s[at + 1])
+    if at + 1 < s.len() {
+        integers::temperature_of(s[at], s[at + 1])
+    } else {
+        integers::temperature_of(byte_or_zero(s, at), byte_or_zero(s, at + 1))
+    }
 }
 
-// X, Y, Z of a group.
-fn group_at(s: &[u8], place: usize) -> [i32; 3]
-    requires { ⌜ Whole 10 place (now s) ⌝ }
-    ensures { λ r. ⌜ r ≡ axes (fieldsAt (widths gyro) place (now (s .entry))) ⌝ }
+fn latency_at(s: &[u8], at: usize) -> u16
+    requires { ⌜ at ≤ 65 ⌝ }
+    ensures { λ r. ⌜ r ≡ bigEndian (window 2 at (now (s .entry))) ⌝ }
+{
+    if at + 1 < s.len() {
+        integers::unsigned_of(s[at], s[at + 1])
+    } else {
+        integers::unsigned_of(byte_or_zero(s, at), byte_or_zero(s, at + 1))
+    }
+}
+
+// A signed number of 2 or 3 bytes.
+fn signed_at(s: &[u8], at: usize, width: usize) -> i32
+    requires { ⌜ at ≤ 65 ⌝ }
+    requires { ⌜ (2 ≤ width) × (width ≤ 3) ⌝ }
+    ensures { λ r. ⌜ r ≡ signedBytes (window width at (now (s .entry))) ⌝ }
+{
+    if width == 2 {
+        temperature_at(s, at)
+    } else {
+        reading_at(s, at)
+    }
+}
+
+// X, Y, Z of a group, or of a temperature set, at its place; 0 for one that isn't carried, whose place is 0.
+fn axes_at(s: &[u8], place: usize, width: usize) -> [i32; 3]
+    requires { ⌜ place ≤ 59 ⌝ }
+    requires { ⌜ (2 ≤ width) × (width ≤ 3) ⌝ }
+    ensures { λ r. ⌜ r ≡ axes (fieldsAt (width ∷ width ∷ width ∷ 1 ∷ []) place (now (s .entry))) ⌝ }
 {
     if place == 0 {
         return [0, 0, 0];
     }
     [
-        reading_at(s, place),
-        reading_at(s, place + 3),
-        reading_at(s, place + 6),
-    ]
-}
-
-// X, Y, Z of a temperature set.
-fn temperatures_at(s: &[u8], place: usize) -> [i32; 3]
-    requires { ⌜ Whole 7 place (now s) ⌝ }
-    ensures { λ r. ⌜ r ≡ axes (fieldsAt (widths gyroTemperatures) place (now (s .entry))) ⌝ }
-{
-    if place == 0 {
-        return [0, 0, 0];
-    }
-    [
-        temperature_at(s, place),
-        temperature_at(s, place + 2),
-        temperature_at(s, place + 4),
+        signed_at(s, place, width),
+        signed_at(s, place + width, width),
+        signed_at(s, place + 2 * width, width),
     ]
 }
 
 fn aux_at(s: &[u8], place: usize) -> i32
-    requires { ⌜ Whole 4 place (now s) ⌝ }
+    requires { ⌜ place ≤ 59 ⌝ }
     ensures { λ r. ⌜ r ≡ signedField (fieldsAt (widths aux) place (now (s .entry))) 0 ⌝ }
 {
     if place == 0 {
@@ -180,31 +239,20 @@ fn aux_at(s: &[u8], place: usize) -> i32
     reading_at(s, place)
 }
 
-fn latency_at(s: &[u8], place: usize) -> u16
-    requires { ⌜ Whole 2 place (now s) ⌝ }
-    ensures { λ r. ⌜ r ≡ unsignedField (fieldsAt (widths latency) place (now (s .entry))) 0 ⌝ }
-{
-    if place == 0 {
-        return 0;
-    }
-    integers::unsigned_of(s[place], s[place + 1])
-}
-
-// The byte `skipped` bytes into a part.
+// The byte `skipped` bytes into a part; 0 for one that isn't carried.
 fn byte_at(s: &[u8], place: usize, skipped: usize) -> u8
-    requires { ⌜ Whole (skipped + 1) place (now s) ⌝ }
+    requires { ⌜ (place ≤ 59) × (skipped ≤ 9) ⌝ }
     ensures { λ r. ⌜ r ≡ byteAt skipped place (now (s .entry)) ⌝ }
 {
     if place == 0 {
         return 0;
     }
-    s[place + skipped]
+    byte_or_zero(s, place + skipped)
 }
 
 fn bytes_at(s: &[u8], places: [usize; 3], skipped: usize) -> [u8; 3]
-    requires { ⌜ Whole (skipped + 1) (getD places 0 0) (now s) ⌝ }
-    requires { ⌜ Whole (skipped + 1) (getD places 1 0) (now s) ⌝ }
-    requires { ⌜ Whole (skipped + 1) (getD places 2 0) (now s) ⌝ }
+    requires { ⌜ (getD places 0 0 ≤ 59) × (getD places 1 0 ≤ 59) × (getD places 2 0 ≤ 59) ⌝ }
+    requires { ⌜ skipped ≤ 9 ⌝ }
     ensures { λ r. ⌜ r ≡ bytesAt skipped places (now (s .entry)) ⌝ }
 {
     [
@@ -215,55 +263,52 @@ fn bytes_at(s: &[u8], places: [usize; 3], skipped: usize) -> [u8; 3]
 }
 
 // The readings, three groups by three axes.
-pub fn readings(identifier: u8, s: &[u8]) -> [[i32; 3]; 3]
-    ensures { λ r. ⌜ r ≡ fieldsOf identifier (now (s .entry)) .readings ⌝ }
+pub fn readings(row: Row, s: &[u8]) -> [[i32; 3]; 3]
+    ensures { λ r. ⌜ r ≡ contentsOf row (now (s .entry)) .readings ⌝ }
 {
-    let places = group_places(identifier, s.len());
+    let places = group_places(row);
     [
-        group_at(s, places[0]),
-        group_at(s, places[1]),
-        group_at(s, places[2]),
+        axes_at(s, places[0], 3),
+        axes_at(s, places[1], 3),
+        axes_at(s, places[2], 3),
     ]
 }
 
-// The status bytes of the groups.
-pub fn statuses(identifier: u8, s: &[u8]) -> [u8; 3]
-    ensures { λ r. ⌜ r ≡ fieldsOf identifier (now (s .entry)) .statuses ⌝ }
+// The status bytes of the groups, which stand last in them.
+pub fn statuses(row: Row, s: &[u8]) -> [u8; 3]
+    ensures { λ r. ⌜ r ≡ contentsOf row (now (s .entry)) .statuses ⌝ }
 {
-    bytes_at(s, group_places(identifier, s.len()), 9)
+    bytes_at(s, group_places(row), GROUP - 1)
 }
 
-pub fn counter(identifier: u8, s: &[u8]) -> u8
-    ensures { λ r. ⌜ r ≡ fieldsOf identifier (now (s .entry)) .counter ⌝ }
+pub fn counter(row: Row, s: &[u8]) -> u8
+    ensures { λ r. ⌜ r ≡ contentsOf row (now (s .entry)) .counter ⌝ }
 {
-    let layout = layout_within(identifier, s.len());
-    byte_at(s, layout.counter, 0)
+    byte_at(s, counter_place(row), 0)
 }
 
 // The latency in microseconds.
-pub fn latency(identifier: u8, s: &[u8]) -> u16
-    ensures { λ r. ⌜ r ≡ fieldsOf identifier (now (s .entry)) .latency ⌝ }
+pub fn latency(row: Row, s: &[u8]) -> u16
+    ensures { λ r. ⌜ r ≡ contentsOf row (now (s .entry)) .latency ⌝ }
 {
-    let layout = layout_within(identifier, s.len());
-    latency_at(s, layout.latency)
+    latency_at(s, counter_place(row) + COUNTER)
 }
 
 // All fields but the readings.
-pub fn fields_of(identifier: u8, s: &[u8]) -> Fields
-    ensures { λ r. ⌜ r ≡ besidesReadings (fieldsOf identifier (now (s .entry))) ⌝ }
+pub fn fields_of(row: Row, s: &[u8]) -> Fields
+    ensures { λ r. ⌜ r ≡ besidesReadings (contentsOf row (now (s .entry))) ⌝ }
 {
-    let layout = layout_within(identifier, s.len());
-    let aux = layout.aux;
-    let places = temperature_places(identifier, s.len());
+    let places = temperature_places(row);
+    let aux = aux_place(row);
     Fields {
-        statuses: statuses(identifier, s),
-        gyro_temperatures: temperatures_at(s, places[0]),
-        accelerometer_temperatures: temperatures_at(s, places[1]),
-        inclinometer_temperatures: temperatures_at(s, places[2]),
-        temperature_statuses: bytes_at(s, places, 6),
+        statuses: statuses(row, s),
+        gyro_temperatures: axes_at(s, places[0], 2),
+        accelerometer_temperatures: axes_at(s, places[1], 2),
+        inclinometer_temperatures: axes_at(s, places[2], 2),
+        temperature_statuses: bytes_at(s, places, TEMPERATURES - 1),
         aux: aux_at(s, aux),
-        aux_status: byte_at(s, aux, 3),
-        counter: counter(identifier, s),
-        latency: latency(identifier, s),
+        aux_status: byte_at(s, aux, AUX - 1),
+        counter: counter(row, s),
+        latency: latency(row, s),
     }
 }

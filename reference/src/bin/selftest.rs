@@ -6,6 +6,7 @@
 use std::env;
 use std::io::{self, Read};
 
+use stim_reference::call::answer_text;
 use stim_reference::check::{check_of, check_unpadded};
 use stim_reference::datagram::{
     decode, double_of, encode, flagged_channels, folded_difference, gap_between, group_values,
@@ -15,11 +16,13 @@ use stim_reference::fast;
 use stim_reference::generate::{good_setup, input_of_case, stream};
 use stim_reference::layout::{datagram_length, layout_of, IDENTIFIERS};
 use stim_reference::line::{write_line, Line};
+use stim_reference::listed;
 use stim_reference::program::{output_for, split_input};
 use stim_reference::random::Random;
 use stim_reference::session::{feed, judge_session, open_session, Axis, Outcome, Session};
 use stim_reference::setup::{judge_setup, read_setup_line, setup_line, Setup};
-use stim_reference::STREAM_LIMIT;
+use stim_reference::whole_piece::{receive_lines, ROOM_FOR_LINES};
+use stim_reference::{PIECE_LIMIT, STREAM_LIMIT};
 
 const EXAMPLE_LINE: &[u8] = b"1000,90,0,3,0,0,21,0,0";
 
@@ -45,6 +48,8 @@ fn main() {
     paper_example();
     feeding_refusals();
     line_refusals();
+    listed_cases();
+    whole_pieces();
     fast_decimals();
     sessions_along_streams();
     plain_against_fast(seed, count);
@@ -410,6 +415,68 @@ fn sessions_along_streams() {
     }
     assert!(handed_out > 1000);
     println!("{handed_out} datagrams handed out along 300 streams");
+}
+
+/// The listed cases: what they say must come out is answered.
+fn listed_cases() {
+    let cases = listed::cases();
+    for (call, expected) in &cases {
+        let answer = answer_text(call);
+        assert!(
+            answer.contains(expected),
+            "expected {expected}but got {answer}"
+        );
+    }
+    println!("{} listed calls", cases.len());
+}
+
+/// Whole pieces, however they are cut: the lines are those that the program
+/// prints, the session is the one that feeding leaves, and nothing else of the
+/// buffer is touched.
+fn whole_pieces() {
+    let mut random = Random::new(4);
+    let mut refusals = 0;
+    for _ in 0..300 {
+        let setup = good_setup(&mut random);
+        let bytes = stream(&mut random, &setup, 3000);
+        let mut session = open_session(&setup).unwrap();
+        let mut lines: Vec<u8> = Vec::new();
+        let mut rest = &bytes[..];
+        while !rest.is_empty() {
+            let (piece, behind) = rest.split_at(random.between(0, rest.len().min(PIECE_LIMIT)));
+            let fill = random.byte();
+            let mut buffer = vec![fill; ROOM_FOR_LINES - random.below(2)];
+            let received = receive_lines(&session, piece, &mut buffer);
+            match received.outcome {
+                Ok(length) => {
+                    assert_eq!(buffer.len(), ROOM_FOR_LINES);
+                    lines.extend(&buffer[..length]);
+                    assert!(buffer[length..].iter().all(|&byte| byte == fill));
+                    rest = behind;
+                }
+                Err(refusal) => {
+                    assert_eq!((refusal, buffer.len()), (14, ROOM_FOR_LINES - 1));
+                    assert!(buffer.iter().all(|&byte| byte == fill));
+                    assert_eq!(received.session, session);
+                    refusals += 1;
+                }
+            }
+            session = received.session;
+        }
+        let mut input = setup_line(&setup).into_bytes();
+        input.push(0x0A);
+        input.extend(&bytes);
+        assert_eq!(lines, output_for(&input, STREAM_LIMIT));
+        let mut fed = open_session(&setup).unwrap();
+        let mut position = 0;
+        while fed.bytes_fed < bytes.len() as u64 {
+            let answer = feed(&fed, &bytes[position..]);
+            fed = answer.session;
+            position += answer.taken;
+        }
+        assert_eq!(session, fed);
+    }
+    assert!(refusals > 100);
 }
 
 /// Gives its bytes in irregular amounts.

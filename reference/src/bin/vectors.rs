@@ -1,103 +1,172 @@
-//! `vectors SEED COUNT PREFIX` writes COUNT records of single calls to
-//! PREFIX.in, and what the reference answers to each, as text, to PREFIX.out.
-//! The same seed always gives the same records.
+//! `vectors SEED COUNT PREFIX` writes COUNT records of single calls, of every
+//! kind, to PREFIX.in, and what the reference answers to each, as text, to
+//! PREFIX.out. The same seed always gives the same records.
 //!
-//! A record is a byte for its kind, two bytes for the length of what follows,
-//! then that. Numbers have their least significant byte first, signed ones are
-//! two's complement, a mark is a byte 1 or 0.
+//! `vectors stored PREFIX` writes the records that crates/probe keeps as its
+//! stdin, and what it must print: generated ones of judging, opening, feeding and
+//! writing, the listed ones, and generated ones of the other calls.
 //!
-//! * 1, a setup to judge and to open: rate (2 bytes), identifier (1),
-//!   termination (2), three units (2 each), three shifts (2 each)
-//! * 2, a call of feed: the setup; 64 held bytes, their count (8), datagrams
-//!   (8), bytes passed over (8), bytes fed (8), previous counter (1); nine axes
-//!   of a begun mark, a last reading (4) and a total (8); the piece
-//! * 3, a text line: the setup; ordinal (8), counter (1), latency (2), off step
-//!   mark, missed (8), nine readings (4 each), three statuses, nine totals of a
-//!   begun mark and a value (8), the buffer's length (2), the byte that fills it
-//!
-//! The text has these lines, numbers in decimal, doubles as the hexadecimal
-//! number that their 64 bits are:
-//!
-//! * `record N setup J O`, J and O `accepted` or `refused NUMBER`, the answers
-//!   of judging and of opening; then the session that came back
-//! * `record N feed A TAKEN`, A `datagram`, `waiting` or `refused NUMBER`; then
-//!   the session and the datagram that came back
-//! * `record N line A BUFFER`, A `written LENGTH` or `refused NUMBER`, BUFFER
-//!   the whole buffer afterwards in hexadecimal
-//! * `session` and: setup, the 64 held bytes in hexadecimal, count, datagrams,
-//!   passed over, fed, previous counter, nine axes (begun, last, total)
-//! * `datagram` and: nine readings, three statuses, nine temperatures and their
-//!   three statuses, AUX and its status, counter, latency, flagged channels of
-//!   three groups, of each group its unit and three doubles, missed or `?`,
-//!   nine totals (begun, steps), nine doubles of totals
+//! The form of a record and of an answer is said in the library's `call`.
 
+use std::collections::HashSet;
 use std::env;
 use std::fs;
+use std::io;
 use std::process::ExitCode;
 
-use stim_reference::datagram::{encode, Datagram, Fields, Gap, GroupValues};
-use stim_reference::generate::{good_setup, stream};
+use stim_reference::call::{answer_text, record_of, Call};
+use stim_reference::datagram::{encode, Fields, Gap};
+use stim_reference::generate::{doubtful_setup_line, good_setup, stream};
 use stim_reference::layout::{datagram_length, layout_of, IDENTIFIERS};
-use stim_reference::line::{judge_line, text_of, write_line, Line};
+use stim_reference::line::{judge_line, text_of, Line};
+use stim_reference::listed;
 use stim_reference::random::Random;
-use stim_reference::session::{
-    feed, keeps_totals, open_session, Answer, Axis, Outcome, Session, MOST_HELD,
-};
-use stim_reference::setup::{judge_setup, Setup};
-use stim_reference::{Refusal, HIGHEST_READING, LOWEST_READING, PIECE_LIMIT, STREAM_LIMIT};
+use stim_reference::session::{feed, keeps_totals, open_session, Axis, Session, MOST_HELD};
+use stim_reference::setup::{setup_line, Setup};
+use stim_reference::whole_piece::{receive_lines, ROOM_FOR_LINES};
+use stim_reference::{HIGHEST_READING, LOWEST_READING, PIECE_LIMIT, STREAM_LIMIT};
 
 /// The longest buffer that a line record lends.
 const LONGEST_BUFFER: usize = 400;
 
-/// One call, with what it is given.
-enum Call {
-    Setup(Setup),
-    Feed(Box<Session>, Vec<u8>),
-    Line(Box<Line>, usize, u8),
-}
+/// The generated records that crates/probe keeps.
+const STORED_SEED: u64 = 725;
+const STORED_SINGLE: usize = 660;
+const STORED_LINES: usize = 120;
 
 fn main() -> ExitCode {
-    let arguments: Vec<String> = env::args().collect();
-    let numbers = (
-        arguments.get(1).and_then(|text| text.parse().ok()),
-        arguments.get(2).and_then(|text| text.parse().ok()),
-    );
-    let (4, (Some(seed), Some(count))) = (arguments.len(), numbers) else {
-        eprintln!("usage: vectors SEED COUNT PREFIX");
-        return ExitCode::from(2);
+    let arguments: Vec<String> = env::args().skip(1).collect();
+    let words: Vec<&str> = arguments.iter().map(String::as_str).collect();
+    let (calls, prefix) = match words[..] {
+        ["stored", prefix] => (stored_calls(), prefix),
+        [seed, count, prefix] => match (seed.parse(), count.parse()) {
+            (Ok(seed), Ok(count)) => (calls(seed, count), prefix),
+            _ => return usage(),
+        },
+        _ => return usage(),
     };
-    let prefix = &arguments[3];
-
-    let mut input = Vec::new();
-    let mut expected = String::new();
-    for (position, call) in calls(seed, count).iter().enumerate() {
-        input.extend(record_of(call));
-        expected += &format!("record {} ", position + 1);
-        expected += &answer_text(call);
-    }
-    let written = fs::write(format!("{prefix}.in"), input)
-        .and_then(|()| fs::write(format!("{prefix}.out"), expected));
-    if let Err(error) = written {
+    if let Err(error) = write(&calls, prefix) {
         eprintln!("vectors: {prefix}: {error}");
         return ExitCode::FAILURE;
     }
     ExitCode::SUCCESS
 }
 
-/// The first `count` calls of a seed.
+fn usage() -> ExitCode {
+    eprintln!("usage: vectors SEED COUNT PREFIX, or vectors stored PREFIX");
+    ExitCode::from(2)
+}
+
+fn write(calls: &[Call], prefix: &str) -> io::Result<()> {
+    let mut input = Vec::new();
+    let mut expected = String::new();
+    for (position, call) in calls.iter().enumerate() {
+        input.extend(record_of(call));
+        expected += &format!("record {} ", position + 1);
+        expected += &answer_text(call);
+    }
+    fs::write(format!("{prefix}.in"), input)?;
+    fs::write(format!("{prefix}.out"), expected)
+}
+
+/// The calls that crates/probe keeps, each listed one once.
+fn stored_calls() -> Vec<Call> {
+    let mut stored = first_calls(STORED_SINGLE, |number, calls| {
+        add_single_case(STORED_SEED, number, calls);
+    });
+    let listed_cases = listed::cases().into_iter().map(|(call, _)| call);
+    let mut seen = HashSet::new();
+    for call in listed_cases.chain(listed::whole_pieces()) {
+        if seen.insert(record_of(&call)) {
+            stored.push(call);
+        }
+    }
+    stored.extend(first_calls(STORED_LINES, |number, calls| {
+        add_lines_case(STORED_SEED, number, calls);
+    }));
+    stored
+}
+
+/// The first `count` calls of a seed, of every kind.
 fn calls(seed: u64, count: usize) -> Vec<Call> {
+    first_calls(count, |number, calls| {
+        if number % 5 == 4 {
+            add_lines_case(seed, number, calls);
+        } else {
+            add_single_case(seed, number, calls);
+        }
+    })
+}
+
+/// The first `count` calls of the cases 0, 1 and so on.
+fn first_calls(count: usize, add_case: impl Fn(u64, &mut Vec<Call>)) -> Vec<Call> {
     let mut calls = Vec::new();
     let mut number = 0;
     while calls.len() < count {
-        add_case(seed, number, &mut calls);
+        add_case(number, &mut calls);
         number += 1;
     }
     calls.truncate(count);
     calls
 }
 
-/// One numbered case: mostly one call, for a stream several in a row.
-fn add_case(seed: u64, number: u64, calls: &mut Vec<Call>) {
+/// One numbered case of reading a setup line or of whole pieces.
+fn add_lines_case(seed: u64, number: u64, calls: &mut Vec<Call>) {
+    let random = &mut Random::for_case(!seed, number);
+    let setup = setup_of_case(random, number);
+    match random.below(10) {
+        0 => calls.push(Call::SetupLine(setup_line(&setup).into_bytes())),
+        1..=4 => {
+            // A record has room for so many bytes.
+            let mut line = doubtful_setup_line(random, &setup);
+            line.truncate(5000);
+            calls.push(Call::SetupLine(line));
+        }
+        5 | 6 => add_stream_of_lines(random, &setup, calls),
+        kind => {
+            let size = whole_piece_size(random);
+            let (mut session, piece) = far_session(random, &setup, size);
+            if kind == 9 {
+                forge(random, &mut session);
+            }
+            calls.push(whole_piece(random, session, piece));
+        }
+    }
+}
+
+/// Whole pieces in a row on the way through a generated stream, cut anywhere.
+fn add_stream_of_lines(random: &mut Random, setup: &Setup, calls: &mut Vec<Call>) {
+    let mut session = open_session(setup).expect("the setup is good");
+    for _ in 0..random.between(1, 4) {
+        let size = whole_piece_size(random);
+        let piece = stream(random, setup, size);
+        let after = receive_lines(&session, &piece, &mut vec![0; ROOM_FOR_LINES]).session;
+        calls.push(whole_piece(random, session, piece));
+        session = after;
+    }
+}
+
+/// A whole piece in a buffer that is mostly long enough.
+fn whole_piece(random: &mut Random, session: Session, piece: Vec<u8>) -> Call {
+    let any = random.below(ROOM_FOR_LINES + 2);
+    let enough = ROOM_FOR_LINES;
+    let room = random.pick(&[enough, enough, enough, enough, enough + 1, enough - 1, any]);
+    Call::WholePiece(Box::new(session), piece, room, random.byte())
+}
+
+fn whole_piece_size(random: &mut Random) -> usize {
+    match random.below(30) {
+        0 => random.between(PIECE_LIMIT - 1, PIECE_LIMIT + 1),
+        1 => random.between(300, PIECE_LIMIT),
+        2..=5 => random.between(0, 3),
+        6..=12 => random.between(17, 66),
+        _ => random.between(50, 300),
+    }
+}
+
+/// One numbered case of judging, opening, feeding or writing: mostly one call,
+/// for a stream several in a row.
+fn add_single_case(seed: u64, number: u64, calls: &mut Vec<Call>) {
     let random = &mut Random::for_case(seed, number);
     let setup = setup_of_case(random, number);
     let size = piece_size(random);
@@ -555,196 +624,4 @@ fn spoil_line(random: &mut Random, line: &mut Line) {
         }
         _ => line.ordinal = 0,
     }
-}
-
-// -------------------------------------------------------------------- records
-
-fn record_of(call: &Call) -> Vec<u8> {
-    let (kind, payload) = match call {
-        Call::Setup(setup) => (1, setup_bytes(setup)),
-        Call::Feed(session, piece) => (2, [session_bytes(session), piece.clone()].concat()),
-        Call::Line(line, room, fill) => (3, line_bytes(line, *room, *fill)),
-    };
-    let length = u16::try_from(payload.len()).expect("a record is short");
-    let mut record = vec![kind];
-    record.extend(length.to_le_bytes());
-    record.extend(payload);
-    record
-}
-
-fn setup_bytes(setup: &Setup) -> Vec<u8> {
-    let narrow = |number: u32| {
-        u16::try_from(number)
-            .expect("a setup's numbers have 16 bits")
-            .to_le_bytes()
-    };
-    let mut bytes = narrow(setup.rate).to_vec();
-    bytes.push(u8::try_from(setup.identifier).expect("an identifier is a byte"));
-    bytes.extend(narrow(setup.termination));
-    for number in setup.units.into_iter().chain(setup.shifts) {
-        bytes.extend(narrow(number));
-    }
-    bytes
-}
-
-fn session_bytes(session: &Session) -> Vec<u8> {
-    let mut bytes = setup_bytes(&session.setup);
-    bytes.extend(session.held);
-    bytes.extend(session.held_count.to_le_bytes());
-    bytes.extend(session.datagrams.to_le_bytes());
-    bytes.extend(session.passed_over.to_le_bytes());
-    bytes.extend(session.bytes_fed.to_le_bytes());
-    bytes.push(session.previous_counter);
-    for axis in session.axes.into_iter().flatten() {
-        bytes.push(u8::from(axis.begun));
-        bytes.extend(axis.last_fit_reading.to_le_bytes());
-        bytes.extend(axis.total.to_le_bytes());
-    }
-    bytes
-}
-
-fn line_bytes(line: &Line, room: usize, fill: u8) -> Vec<u8> {
-    let mut bytes = setup_bytes(&line.setup);
-    bytes.extend(line.ordinal.to_le_bytes());
-    bytes.push(line.counter);
-    bytes.extend(line.latency.to_le_bytes());
-    let (off_step, missed) = match line.gap {
-        Gap::Missed(missed) => (0, missed),
-        Gap::OffStep => (1, 0),
-    };
-    bytes.push(off_step);
-    bytes.extend(missed.to_le_bytes());
-    for reading in line.readings.into_iter().flatten() {
-        bytes.extend(reading.to_le_bytes());
-    }
-    bytes.extend(line.statuses);
-    for group in 0..3 {
-        for axis in 0..3 {
-            bytes.push(u8::from(line.begun[group][axis]));
-            bytes.extend(line.totals[group][axis].to_le_bytes());
-        }
-    }
-    bytes.extend(u16::try_from(room).expect("a buffer is short").to_le_bytes());
-    bytes.push(fill);
-    bytes
-}
-
-// -------------------------------------------------------------------- answers
-
-/// What the reference answers, behind the record's number.
-fn answer_text(call: &Call) -> String {
-    match call {
-        Call::Setup(setup) => {
-            let judged = judge_setup(setup);
-            let opened = open_session(setup);
-            format!(
-                "setup {} {}\n{}",
-                judgement_text(&judged),
-                judgement_text(&opened.map(|_| ())),
-                session_text(&opened.unwrap_or(Session::ZEROS))
-            )
-        }
-        Call::Feed(session, piece) => feed_text(&feed(session, piece)),
-        Call::Line(line, room, fill) => {
-            let mut buffer = vec![*fill; *room];
-            let answer = match write_line(line, &mut buffer) {
-                Ok(length) => format!("written {length}"),
-                Err(refusal) => format!("refused {refusal}"),
-            };
-            format!("line {answer} {}\n", hexadecimal(&buffer))
-        }
-    }
-}
-
-fn judgement_text(judgement: &Result<(), Refusal>) -> String {
-    match judgement {
-        Ok(()) => "accepted".to_string(),
-        Err(refusal) => format!("refused {refusal}"),
-    }
-}
-
-fn feed_text(answer: &Answer) -> String {
-    let outcome = match answer.outcome {
-        Outcome::Datagram => "datagram".to_string(),
-        Outcome::Waiting => "waiting".to_string(),
-        Outcome::Refused(refusal) => format!("refused {refusal}"),
-    };
-    format!(
-        "feed {outcome} {}\n{}{}",
-        answer.taken,
-        session_text(&answer.session),
-        datagram_text(&answer.datagram)
-    )
-}
-
-fn session_text(session: &Session) -> String {
-    let setup = &session.setup;
-    let mut words = vec![
-        "session".to_string(),
-        setup.rate.to_string(),
-        setup.identifier.to_string(),
-        setup.termination.to_string(),
-    ];
-    words.extend(setup.units.map(|unit| unit.to_string()));
-    words.extend(setup.shifts.map(|shift| shift.to_string()));
-    words.push(hexadecimal(&session.held));
-    words.push(session.held_count.to_string());
-    words.push(session.datagrams.to_string());
-    words.push(session.passed_over.to_string());
-    words.push(session.bytes_fed.to_string());
-    words.push(session.previous_counter.to_string());
-    for axis in session.axes.into_iter().flatten() {
-        words.push(mark_text(axis.begun));
-        words.push(axis.last_fit_reading.to_string());
-        words.push(axis.total.to_string());
-    }
-    words.join(" ") + "\n"
-}
-
-fn datagram_text(datagram: &Datagram) -> String {
-    let fields = &datagram.fields;
-    let mut words = vec!["datagram".to_string()];
-    words.extend(fields.readings.iter().flatten().map(i32::to_string));
-    words.extend(fields.statuses.iter().map(u8::to_string));
-    words.extend(fields.temperatures.iter().flatten().map(i16::to_string));
-    words.extend(fields.temperature_statuses.iter().map(u8::to_string));
-    words.push(fields.auxiliary.to_string());
-    words.push(fields.auxiliary_status.to_string());
-    words.push(fields.counter.to_string());
-    words.push(fields.latency.to_string());
-    words.extend(datagram.flagged_channels.iter().map(u32::to_string));
-    for values in &datagram.values {
-        let (unit, doubles) = match values {
-            GroupValues::Instantaneous(doubles) => (0, doubles),
-            GroupValues::Incremental(doubles) => (1, doubles),
-            GroupValues::Average(doubles) => (2, doubles),
-            GroupValues::Integrated(doubles) => (3, doubles),
-        };
-        words.push(unit.to_string());
-        words.extend(doubles.map(bits_text));
-    }
-    words.push(match datagram.gap {
-        Gap::Missed(missed) => missed.to_string(),
-        Gap::OffStep => "?".to_string(),
-    });
-    for total in datagram.totals.iter().flatten() {
-        words.push(mark_text(total.begun));
-        words.push(total.steps.to_string());
-    }
-    for total in datagram.totals.iter().flatten() {
-        words.push(bits_text(total.double));
-    }
-    words.join(" ") + "\n"
-}
-
-fn mark_text(mark: bool) -> String {
-    u8::from(mark).to_string()
-}
-
-fn bits_text(double: f64) -> String {
-    format!("{:x}", double.to_bits())
-}
-
-fn hexadecimal(bytes: &[u8]) -> String {
-    bytes.iter().map(|byte| format!("{byte:02x}")).collect()
 }

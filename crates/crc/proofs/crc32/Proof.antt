@@ -6,7 +6,7 @@ use native.Mathlib.Omega.{arith}
 use borrow.Author.Needs.{needs}
 use lib.Dec.{lit<}
 use lib.ListN.{length, drop}
-use Rattle.crc.specs.Check.{stim300, register, padded, checkOf, check32}
+use Rattle.crc.specs.Check.{stim300, register, covered, checkOf, check32}
 use Rattle.crc.specs.Wide.{remainder}
 use Rattle.crc.proofs.Remainder.{remainder-low}
 use Rattle.crc.proofs.WordLoop.{four-next}
@@ -14,7 +14,7 @@ use Rattle.crc.proofs.crc32.Statement.{statement}
 use Rattle.crc.proofs.crc32.Tie as tie
 
 abbrev Inv-loop : tie.InvT-loop
-Inv-loop s check₀ i₀ check i = (i ≤ length s) × (i % 4 ≡ 0) × (register 32 0x04C11DB7 (remainder check) (drop i (padded 4 s)) ≡ check32 s)
+Inv-loop s check₀ i₀ check i = (i ≤ length s) × (i % 4 ≡ 0) × (register 32 0x04C11DB7 (remainder check) (drop i (covered 4 s)) ≡ check32 s)
 
 abbrev μ-loop : tie.MeasureT-loop
 μ-loop s check₀ i₀ check i = length s - i
@@ -24,7 +24,7 @@ cast-check c = omega arith
 
 loop-holds : tie.Need-loop-holds Inv-loop μ-loop
 unfolding check32 checkOf stim300
-loop-holds c = (omega arith, omega arith, ap (λ (n : ℕ). register 32 0x04C11DB7 n (padded 4 (c .before .args .s .now))) (remainder-low 0xFFFFFFFF (lit< tt)))
+loop-holds c = (omega arith, omega arith, ap (λ (n : ℕ). register 32 0x04C11DB7 n (covered 4 (c .before .args .s .now))) (remainder-low 0xFFFFFFFF (lit< tt)))
 
 add-loop : tie.Need-add-loop Inv-loop μ-loop
 add-loop c = omega arith

@@ -1,23 +1,21 @@
--- `crc::eight_wide_shifts` meets its contract. The invariant: the shifts that are left, from here, are the eight of the start.
+-- `crc::eight_wide_shifts` meets its contract, by the laws of the loop over any width.
 -- Assumes nothing.
-use mathlib.Core.Path.{_≡_, refl, sym, ap, _∙_}
-use Prim.Native.Nat.{_+_, _-_, _≤_}
+use Prim.Native.Nat.{_-_}
 use native.Mathlib.Omega.{arith}
 use borrow.Author.Needs.{needs}
-use Rattle.crc.specs.Check.{shifts}
 use Rattle.crc.specs.Wide.{widePolynomial}
-use Rattle.crc.proofs.ByteLoop.{shifts-next, shifts-end}
+use Rattle.crc.proofs.ByteLoop.{EightLeft, eight-start, eight-next, eight-end}
 use Rattle.crc.proofs.eight_wide_shifts.Statement.{statement}
 use Rattle.crc.proofs.eight_wide_shifts.Tie as tie
 
 abbrev Inv-loop : tie.InvT-loop
-Inv-loop c x₀ count₀ x count = (count ≤ 8) × (shifts 64 widePolynomial (8 - count) x ≡ shifts 64 widePolynomial 8 x₀)
+Inv-loop c x₀ count₀ x count = EightLeft 64 widePolynomial x₀ x count
 
 abbrev μ-loop : tie.MeasureT-loop
 μ-loop c x₀ count₀ x count = 8 - count
 
 loop-holds : tie.Need-loop-holds Inv-loop μ-loop
-loop-holds c = (omega arith, refl)
+loop-holds c = eight-start 64 widePolynomial (c .args .c)
 
 wide-shift-requires : tie.Need-wide-shift-requires Inv-loop μ-loop
 wide-shift-requires c κs = search needs
@@ -29,16 +27,10 @@ loop-less : tie.Need-loop-less Inv-loop μ-loop
 loop-less c = omega arith
 
 loop-again : tie.Need-loop-again Inv-loop μ-loop
-loop-again c =
-    let l = c .before .before .loop in (
-      omega arith,
-      ap (shifts 64 widePolynomial (8 - (l .count + 1))) (c .wide-shift .ensures) ∙ sym (shifts-next 64 widePolynomial (l .x) (l .count) (c .before .loop-test .taken)) ∙ l .inv .1,
-    )
+loop-again c = eight-next (c .before .before .loop .inv) (c .before .loop-test .taken) (c .wide-shift .ensures)
 
 returns : tie.Need-returns Inv-loop μ-loop
-returns c =
-    let l = c .before .loop in
-    sym (shifts-end 64 widePolynomial (l .x) (l .count) (c .loop-test .left)) ∙ l .inv .1
+returns c = eight-end (c .before .loop .inv) (c .loop-test .left)
 
 pub eight-wide-shifts-spec : {M : Type 1} → statement M
 eight-wide-shifts-spec = tie.close (tie.spec Inv-loop μ-loop loop-holds wide-shift-requires add-count loop-less loop-again returns)

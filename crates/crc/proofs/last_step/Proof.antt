@@ -5,7 +5,7 @@ use mathlib.Core.List.{List, [], _∷_}
 use Prim.Native.Nat.{ℕ, _+_}
 use native.Mathlib.Omega.{arith}
 use lib.ListN.{getD, drop, List·getD-eq-default}
-use Rattle.crc.specs.Check.{register, padded}
+use Rattle.crc.specs.Check.{register, covered}
 use Rattle.crc.specs.Wide.{remainder}
 use Rattle.crc.proofs.WordLoop.{four, four-next, four-end}
 use borrow.Author.Needs.{needs}
@@ -41,7 +41,7 @@ returns c =
     let last : getD s (a .i) 0 ∷ c .before .before .byte-or-zero .result ∷ c .before .byte-or-zero2 .result ∷ 0 ∷ [] ≡ four s (a .i) = cc in
     let step : remainder (c .word-step .result) ≡ register 32 0x04C11DB7 from (four s (a .i)) = c .word-step .ensures ∙ ap (register 32 0x04C11DB7 from) last in
     sym (four-end 32 0x04C11DB7 (remainder (c .word-step .result)) s (a .i + 4) (omega arith) (omega arith))
-    ∙ four-next 32 0x04C11DB7 from s (a .i) (omega arith) (remainder (c .word-step .result)) (register 32 0x04C11DB7 from (drop (a .i) (padded 4 s))) (omega arith) step refl
+    ∙ four-next 32 0x04C11DB7 from s (a .i) (omega arith) (remainder (c .word-step .result)) (register 32 0x04C11DB7 from (drop (a .i) (covered 4 s))) (omega arith) step refl
 
 returns-2 : tie.Need-returns-2
 returns-2 c =

@@ -61,7 +61,10 @@ unfolding next
 add-result c = rw (toZ-ofZ w64 (c .before .args .z) (c .before .fits .z)) (next-fits (c .before .args .z) (c .before .fits .z) (is-below c))
 
 sub-result : tie.Need-sub-result
-sub-result c = sfits-by (step (c .before .args .z) (c .before .fits .z) (is-below c)) (turned-fits (c .before .args .z) (c .before .fits .z) (is-below c))
+sub-result c =
+    let z = c .before .args .z in
+    let f = c .before .fits .z in
+    sfits-by (step z f (is-below c)) (turned-fits z f (is-below c))
 
 cast-result : tie.Need-cast-result
 cast-result c =

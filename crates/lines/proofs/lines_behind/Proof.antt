@@ -8,7 +8,7 @@ use borrow.Author.Needs.{needs}
 use lib.ListN.{length}
 use lib.Seq.{sets, length-sets}
 use Rattle.text.specs.TextLine.{outside}
-use Rattle.session.specs.Session.{limits}
+use Rattle.search.specs.Search.{limitsOf}
 use Rattle.session.proofs.Soundness.{sound-facts}
 use Rattle.session.proofs.PieceRulings.{Admitted, admitted}
 use Rattle.receiver.specs.declared.Reply.{Reply}
@@ -79,7 +79,7 @@ lines-of-requires c κs =
     let wide : enough ≤ length (f .last .1 .1 .1 .0) = omega (arith, ap length (f .ensures .bytes), length-sets b 0 (lineOf (s .args .session .setup) (c .before .before .before .before .before .before .before .before .before .before .feed .result .session .history .datagrams .0) (c .before .before .before .before .before .before .before .before .before .before .feed .result .datagram)), s .pre .enough) in (
       subst (λ (r : Reply). Ready (r .session .setup) (startOf (r .session) (r .taken) (f .result)) (length p) (length (f .last .1 .1 .1 .0))) (sym (replied g))
           (first-ready (s .args .session) p (length b) (s .pre) (given g) (f .result) (length (f .last .1 .1 .1 .0)) few wide),
-      subst (λ (r : Reply). r .session .fed + (length p - r .taken) ≤ limits .session) (sym (replied g))
+      subst (λ (r : Reply). r .session .fed + (length p - r .taken) ≤ limitsOf (r .session .setup) .session) (sym (replied g))
           (first-fed (s .args .session) p (length b) (s .pre) (given g)),
     )
 

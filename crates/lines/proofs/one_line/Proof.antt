@@ -10,7 +10,7 @@ use Rattle.setup.specs.Setup.{lengthOf}
 use Rattle.setup.proofs.Refusals.{accepted-length}
 use Rattle.motion.specs.Totals.{totalsOf}
 use Rattle.text.specs.TextLine.{lineText, outside, longestLine}
-use Rattle.search.proofs.Datagrams.{shaped}
+use Rattle.search.proofs.Datagrams.{datagram-length}
 use Rattle.session.specs.History.{gapNext, historyNext, advanced}
 use Rattle.session.specs.declared.History.{History}
 use Rattle.session.proofs.HistoryLaws.{advanced-next}
@@ -84,7 +84,7 @@ put-behind-requires c κs =
     let s = c .before .before .before .before .before .before .before .before .before .before .before .before in
     let a = s .args in
     let R = s .pre .0 in
-    let long : length (a .d .now) ≡ lengthOf (a .setup) = shaped (a .setup) (R .accepted) .long (a .d .now) (s .pre .1) in (
+    let long : length (a .d .now) ≡ lengthOf (a .setup) = datagram-length (a .setup) (a .d .now) (s .pre .1) in (
       R .accepted,
       (
         (λ i. outside (ordinal-is c i) (c .before .before .before .before .before .before .before .before .readings .ensures i) (totals-are c i))

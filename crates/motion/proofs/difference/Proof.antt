@@ -4,7 +4,7 @@ use mathlib.Core.Path.{_≡_, _∙_}
 use Prim.Native.Nat.{_+_, _*_, _/_, _%_}
 use native.Mathlib.Omega.{arith}
 use lib.IntN.{pos, _+ℤ_, _-ℤ_}
-use mir.Syntax.{w32, w64}
+use mir.Syntax.{w32}
 use mir.Val.{SFits}
 use mir.ValLaws.{toZ-ofZ, toZ-pos}
 use Rattle.integers.proofs.Folding.{wrapped-low, wrapped-high, wrapped-fits}
@@ -30,10 +30,12 @@ cast-result-2 c = search needs
 sub-result : tie.Need-sub-result
 sub-result c =
     let r = c .before .wrapping-sub-u64 .result in
-    rw (toZ-pos w64 (r % 16777216) (omega arith)) (record { sfits = omega (arith, wrapped-fits r) })
+    rw (toZ-pos w32 (r % 16777216) (omega arith)) (record { sfits = omega (arith, wrapped-fits r) })
 
 -- what the wrapping difference gives, by the tie of the place after it
-wrapped : (c : tie.After-wrapping-sub-u64) → c .wrapping-sub-u64 .result + c .before .lifted2 .result ≡ c .before .before .lifted .result + 16777216 * ((c .wrapping-sub-u64 .result + c .before .lifted2 .result) / 18446744073709551616 * 1099511627776)
+wrapped : (c : tie.After-wrapping-sub-u64) →
+    let sum = c .wrapping-sub-u64 .result + c .before .lifted2 .result in
+    sum ≡ c .before .before .lifted .result + 16777216 * (sum / 18446744073709551616 * 1099511627776)
 wrapped c = omega (arith, c .wrapping-sub-u64 .ensures)
 
 -- a signed argument reaches the callee as what is read back from its bits
@@ -49,7 +51,7 @@ returns c =
     let d = c .before in
     let a = d .before .before .before .args in
     let r = d .wrapping-sub-u64 .result in
-    toZ-pos w64 (r % 16777216) (omega arith)
+    toZ-pos w32 (r % 16777216) (omega arith)
     ∙ wrapped-low (a .new) (a .old) 2147483648 _ _ r _ (new-lifted (d .before .before)) (old-lifted (d .before)) (wrapped d) (omega arith)
 
 returns-2 : tie.Need-returns-2
@@ -58,9 +60,9 @@ returns-2 c =
     let d = c .before in
     let a = d .before .before .before .args in
     let r = d .wrapping-sub-u64 .result in
-    let f : SFits w64 (pos (r % 16777216) -ℤ pos 16777216) = record { sfits = omega (arith, wrapped-fits r) } in
-    rw (toZ-pos w64 (r % 16777216) (omega arith))
-    (toZ-ofZ w64 (pos (r % 16777216) -ℤ pos 16777216) f
+    let f : SFits w32 (pos (r % 16777216) -ℤ pos 16777216) = record { sfits = omega (arith, wrapped-fits r) } in
+    rw (toZ-pos w32 (r % 16777216) (omega arith))
+    (toZ-ofZ w32 (pos (r % 16777216) -ℤ pos 16777216) f
     ∙ wrapped-high (a .new) (a .old) 2147483648 _ _ r _ (new-lifted (d .before .before)) (old-lifted (d .before)) (wrapped d) (omega arith))
 
 pub difference-spec : {M : Type 1} → statement M

@@ -1,56 +1,108 @@
 -- `motion::gap_between` meets its contract. Assumes nothing.
-use Prim.Native.Nat.{ℕ, _<_, _≤_}
-use mathlib.Core.Bool.{Bool, true, false, _||_}
-use mathlib.Core.Path.{_≡_}
+use Prim.Native.Nat.{ℕ, _<_}
+use mathlib.Core.Bool.{false}
+use mathlib.Core.Path.{_≡_, refl}
 use native.Mathlib.Omega.{arith}
-use borrow.Author.Tests.{eqb-false}
-use Rattle.motion.specs.Gaps.{gapAt}
-use Rattle.motion.proofs.Gaps.{elapsed-range, rate-most, step-positive}
+use lib.Dec.{eqb}
+use Rattle.setup.specs.Setup.{hertz}
+use Rattle.setup.specs.declared.Rate.{Rate}
+use Rattle.motion.specs.declared.Gap.{Gap}
+use Rattle.motion.specs.Gaps.{samples, stepAt, missedAfter, gapAt, gapBetween}
+use Rattle.motion.proofs.Gaps.{elapsed-range}
 use borrow.Author.Needs.{needs}
 use Rattle.motion.proofs.gap_between.Statement.{statement}
 use Rattle.motion.proofs.gap_between.Tie as tie
 
-or-right : (a b : Bool) → (a || b) ≡ false → b ≡ false
-or-right true b e = let z : _≡_ {A = ℕ} 0 1 = cc in absurd (omega arith)
-or-right false b e = e
+-- at least one sample goes by
+some : (c : tie.After-elapsed) → 0 < c .elapsed .result .0
+some c = rw (c .elapsed .ensures) (elapsed-range (c .before .before .args .previous) (c .before .before .args .counter) .0)
 
-positive : (c : tie.Else1) → 0 < c .before .known-rate .result
-positive c = let h = eqb-false (c .before .known-rate .result) 0 (or-right (c .before .before .args .first) _ (c .if1 .left)) in omega arith
-
-most : (c : tie.Else1) → c .before .known-rate .result ≤ 2000
-most c = rw (c .before .known-rate .ensures) (rate-most (c .before .before .args .setup .rate))
-
-known-rate-requires : tie.Need-known-rate-requires
-known-rate-requires c κs = search needs
+-- the gap at a rate with so many samples from one datagram to the next
+told : (c : tie.After-elapsed) {rate : Rate} {s : ℕ} {g : Gap} → c .before .before .args .rate ≡ rate
+    → g ≡ missedAfter (samples s) (c .elapsed .result) → stepAt (hertz rate) ≡ samples s → eqb (hertz rate) 0 ≡ false
+    → let a = c .before .before .args in g ≡ gapBetween (a .rate) (a .first) (a .previous) (a .counter)
+unfolding gapAt
+told c r e step later = rw (e, ← step, c .elapsed .ensures, r, c .before .if1 .left, later)
 
 returns : tie.Need-returns
 unfolding gapAt
-returns c = rw (← c .before .known-rate .ensures, c .if1 .taken)
-
-cast-t9 : tie.Need-cast-t9
-cast-t9 c = search needs
-
-div-t10 : tie.Need-div-t10
-div-t10 c = positive c
+returns c = rw (c .if1 .taken)
 
 elapsed-requires : tie.Need-elapsed-requires
 elapsed-requires c κs = search needs
 
+enum-told : tie.Need-enum-told
+enum-told c = search needs
+
+enum-told-2 : tie.Need-enum-told-2
+enum-told-2 c = search needs
+
 missed-requires : tie.Need-missed-requires
-missed-requires c κs = (step-positive _ (positive (c .before)) (most (c .before)), rw (c .elapsed .ensures) (elapsed-range (c .before .before .before .args .previous) (c .before .before .before .args .counter) .0))
+missed-requires c κs = (omega arith, some (c .before .before))
+
+enum-told-3 : tie.Need-enum-told-3
+enum-told-3 c = search needs
+
+missed-requires-2 : tie.Need-missed-requires-2
+missed-requires-2 c κs = (omega arith, some (c .before .before))
+
+enum-told-4 : tie.Need-enum-told-4
+enum-told-4 c = search needs
+
+missed-requires-3 : tie.Need-missed-requires-3
+missed-requires-3 c κs = (omega arith, some (c .before .before))
+
+enum-told-5 : tie.Need-enum-told-5
+enum-told-5 c = search needs
+
+missed-requires-4 : tie.Need-missed-requires-4
+missed-requires-4 c κs = (omega arith, some (c .before .before))
+
+enum-told-6 : tie.Need-enum-told-6
+enum-told-6 c = search needs
+
+missed-requires-5 : tie.Need-missed-requires-5
+missed-requires-5 c κs = (omega arith, some (c .before .before))
 
 returns-2 : tie.Need-returns-2
 unfolding gapAt
-returns-2 c = rw (c .missed .ensures, c .before .elapsed .ensures, ← c .before .before .before .known-rate .ensures, c .before .before .if1 .left)
+returns-2 c = rw (c .before .before .before .if1 .left, c .enum-told .given .1)
+
+returns-3 : tie.Need-returns-3
+returns-3 c = told (c .before .before .before) (c .before .enum-told2 .given .1) (c .missed .ensures) refl refl
+
+returns-4 : tie.Need-returns-4
+returns-4 c = told (c .before .before .before) (c .before .enum-told3 .given .1) (c .missed2 .ensures) refl refl
+
+returns-5 : tie.Need-returns-5
+returns-5 c = told (c .before .before .before) (c .before .enum-told4 .given .1) (c .missed3 .ensures) refl refl
+
+returns-6 : tie.Need-returns-6
+returns-6 c = told (c .before .before .before) (c .before .enum-told5 .given .1) (c .missed4 .ensures) refl refl
+
+returns-7 : tie.Need-returns-7
+returns-7 c = told (c .before .before .before) (c .before .enum-told6 .given .1) (c .missed5 .ensures) refl refl
 
 pub gap-between-spec : {M : Type 1} → statement M
 gap-between-spec =
     tie.close
     (tie.spec
-    known-rate-requires
     returns
-    cast-t9
-    div-t10
     elapsed-requires
+    enum-told
+    enum-told-2
     missed-requires
-    returns-2)
+    enum-told-3
+    missed-requires-2
+    enum-told-4
+    missed-requires-3
+    enum-told-5
+    missed-requires-4
+    enum-told-6
+    missed-requires-5
+    returns-2
+    returns-3
+    returns-4
+    returns-5
+    returns-6
+    returns-7)

@@ -47,11 +47,15 @@ returns c =
     let n = c .before .before .before .before .before in
     let s = n .before .before .before .before .before in
     let r = s .args .t3 in
-    let f : Axis → ℕ → ℤ → Axis = λ a k z. keptStep (s .args .kept) a (record { fit = getD (n .before .before .before .before .fit-axes .result) k false; reading = z }) in
-    let x = passed w32 (f (s .args .axes .x) 0) (getD r 0 (pos 0)) (record { sfits = n .kept-step-arg .given }) (c .before .before .before .before .kept-step .ensures) in
-    let y = passed w32 (f (s .args .axes .y) 1) (getD r 1 (pos 0)) (record { sfits = c .before .before .before .kept-step-arg2 .given }) (c .before .before .kept-step2 .ensures) in
-    let z = passed w32 (f (s .args .axes .z) 2) (getD r 2 (pos 0)) (record { sfits = c .before .kept-step-arg3 .given }) (c .kept-step3 .ensures) in
-    rw (x, y, z, n .before .before .before .before .fit-axes .ensures)
+    let a = s .args .axes in
+    let m = n .before .before .before .before .fit-axes in
+    let f : Axis → ℕ → ℤ → Axis = λ a k z. keptStep (s .args .kept) a (record { fit = getD (m .result) k false; reading = z }) in
+    let o = c .before .before in
+    let p = o .before .before in
+    let x = passed w32 (f (a .x) 0) (getD r 0 (pos 0)) (record { sfits = n .kept-step-arg .given }) (p .kept-step .ensures) in
+    let y = passed w32 (f (a .y) 1) (getD r 1 (pos 0)) (record { sfits = o .before .kept-step-arg2 .given }) (o .kept-step2 .ensures) in
+    let z = passed w32 (f (a .z) 2) (getD r 2 (pos 0)) (record { sfits = c .before .kept-step-arg3 .given }) (c .kept-step3 .ensures) in
+    rw (x, y, z, m .ensures)
 
 pub group-step-spec : {M : Type 1} → statement M
 group-step-spec =

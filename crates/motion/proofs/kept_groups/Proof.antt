@@ -1,43 +1,25 @@
 -- `motion::kept_groups` meets its contract. Assumes nothing.
-use Rattle.motion.specs.Totals.{groupsKept}
+use Rattle.motion.specs.Totals.{keptBy}
 use borrow.Author.Needs.{needs}
 use Rattle.motion.proofs.kept_groups.Statement.{statement}
 use Rattle.motion.proofs.kept_groups.Tie as tie
 
-groups-carried-requires : tie.Need-groups-carried-requires
-groups-carried-requires c κs = search needs
+is-integrated-requires : tie.Need-is-integrated-requires
+is-integrated-requires c κs = search needs
 
-array-read-t7 : tie.Need-array-read-t7
-array-read-t7 c = search needs
+is-integrated-requires-2 : tie.Need-is-integrated-requires-2
+is-integrated-requires-2 c κs = search needs
 
-array-read-t10 : tie.Need-array-read-t10
-array-read-t10 c = search needs
-
-array-read-t15 : tie.Need-array-read-t15
-array-read-t15 c = search needs
-
-array-read-t18 : tie.Need-array-read-t18
-array-read-t18 c = search needs
-
-array-read-t23 : tie.Need-array-read-t23
-array-read-t23 c = search needs
-
-array-read-t26 : tie.Need-array-read-t26
-array-read-t26 c = search needs
+is-integrated-requires-3 : tie.Need-is-integrated-requires-3
+is-integrated-requires-3 c κs = search needs
 
 returns : tie.Need-returns
-unfolding groupsKept
-returns c = rw (c .groups-carried .ensures)
+unfolding keptBy
+returns c =
+    let m = c .before .before .before in
+    rw (m .before .is-integrated .ensures, m .is-integrated2 .ensures, c .before .is-integrated3 .ensures)
 
 pub kept-groups-spec : {M : Type 1} → statement M
 kept-groups-spec =
     tie.close
-    (tie.spec
-    groups-carried-requires
-    array-read-t7
-    array-read-t10
-    array-read-t15
-    array-read-t18
-    array-read-t23
-    array-read-t26
-    returns)
+    (tie.spec is-integrated-requires is-integrated-requires-2 is-integrated-requires-3 returns)

@@ -22,10 +22,14 @@ told c =
     passed w64 (within (2 ^ 53)) z f (c .is-within .ensures)
 
 -- what the test tells where the axis stays as it is, and where it moves
-stays-here : (c : tie.Then1) → ((c .before .before .before .args .kept && within (2 ^ 53) (c .before .before .before .args .axis .total)) && c .before .before .before .args .fit) ≡ false
+stays-here : (c : tie.Then1) →
+    let s = c .before .before .before .args in
+    ((s .kept && within (2 ^ 53) (s .axis .total)) && s .fit) ≡ false
 stays-here c = rw (← told (c .before)) (not-true _ (c .if1 .taken))
 
-moves-here : (c : tie.Else1) → ((c .before .before .before .args .kept && within (2 ^ 53) (c .before .before .before .args .axis .total)) && c .before .before .before .args .fit) ≡ true
+moves-here : (c : tie.Else1) →
+    let s = c .before .before .before .args in
+    ((s .kept && within (2 ^ 53) (s .axis .total)) && s .fit) ≡ true
 moves-here c = rw (← told (c .before)) (not-false _ (c .if1 .left))
 
 stays : (counts fit : Bool) (a b : Axis) → (counts && fit) ≡ false → cond counts (cond fit b a) a ≡ a

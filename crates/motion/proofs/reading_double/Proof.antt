@@ -18,7 +18,8 @@ returns : tie.Need-returns
 returns c =
     let s = c .before .before in
     let n = s .args .reading in
-    rw (toZ-ofZ w32 n (s .fits .reading), c .power .ensures) (computed n (s .args .shift) (omega (arith, abs-of-sfits w32 n (s .fits .reading))) (s .pre))
+    rw (toZ-ofZ w32 n (s .fits .reading), c .power .ensures)
+    (computed n (s .args .shift) (omega (arith, abs-of-sfits w32 n (s .fits .reading))) (s .pre))
 
 pub reading-double-spec : {M : Type 1} → statement M
 reading-double-spec = tie.close (tie.spec int-to-float-result power-requires returns)

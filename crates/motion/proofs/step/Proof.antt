@@ -1,11 +1,8 @@
 -- `motion::step` meets its contract. Assumes nothing.
-use Rattle.motion.specs.Totals.{groupsKept, stepped}
+use Rattle.motion.specs.Totals.{stepped}
 use borrow.Author.Needs.{needs}
 use Rattle.motion.proofs.step.Statement.{statement}
 use Rattle.motion.proofs.step.Tie as tie
-
-kept-groups-requires : tie.Need-kept-groups-requires
-kept-groups-requires c κs = search needs
 
 array-read-group-step : tie.Need-array-read-group-step
 array-read-group-step c = search needs
@@ -44,14 +41,15 @@ group-step-requires-3 : tie.Need-group-step-requires-3
 group-step-requires-3 c κs = search needs
 
 returns : tie.Need-returns
-unfolding groupsKept stepped
-returns c = rw (c .before .before .before .before .group-step .ensures, c .before .before .group-step2 .ensures, c .group-step3 .ensures, c .before .before .before .before .before .before .before .before .before .kept-groups .ensures)
+unfolding stepped
+returns c =
+    let o = c .before .before in
+    rw (o .before .before .group-step .ensures, o .group-step2 .ensures, c .group-step3 .ensures)
 
 pub step-spec : {M : Type 1} → statement M
 step-spec =
     tie.close
     (tie.spec
-    kept-groups-requires
     array-read-group-step
     array-copy-out-group-step
     array-read-group-step-2

@@ -30,14 +30,22 @@ is-within-requires c κs = search needs
 steps-double-requires : tie.Need-steps-double-requires
 steps-double-requires c κs =
     let s = c .before .before in
-    rw (toZ-ofZ w64 (s .before .before .args .axis .total) (fits (s .before)), s .known-shift .ensures)
-    (within-true (2 ^ 53) (s .before .before .args .axis .total) (sym (told (c .before)) ∙ c .if1 .taken), shift-small (s .before .before .args .shift))
+    let a = s .before .before .args in
+    rw (toZ-ofZ w64 (a .axis .total) (fits (s .before)), s .known-shift .ensures)
+    (within-true (2 ^ 53) (a .axis .total) (sym (told (c .before)) ∙ c .if1 .taken), shift-small (a .shift))
 
 returns : tie.Need-returns
 unfolding totalDouble
 returns c =
     let s = c .before .before .before in
-    rw (← told (c .before .before), c .before .if1 .taken, c .steps-double .ensures, s .known-shift .ensures, toZ-ofZ w64 (s .before .before .args .axis .total) (fits (s .before)))
+    let z = s .before .before .args .axis .total in
+    rw (
+      ← told (c .before .before),
+      c .before .if1 .taken,
+      c .steps-double .ensures,
+      s .known-shift .ensures,
+      toZ-ofZ w64 z (fits (s .before)),
+    )
 
 returns-2 : tie.Need-returns-2
 unfolding totalDouble ofBits

@@ -4,20 +4,11 @@ use borrow.Author.Needs.{needs}
 use Rattle.motion.proofs.total_doubles.Statement.{statement}
 use Rattle.motion.proofs.total_doubles.Tie as tie
 
-array-read-group-doubles : tie.Need-array-read-group-doubles
-array-read-group-doubles c = search needs
-
 group-doubles-requires : tie.Need-group-doubles-requires
 group-doubles-requires c κs = search needs
 
-array-read-group-doubles-2 : tie.Need-array-read-group-doubles-2
-array-read-group-doubles-2 c = search needs
-
 group-doubles-requires-2 : tie.Need-group-doubles-requires-2
 group-doubles-requires-2 c κs = search needs
-
-array-read-group-doubles-3 : tie.Need-array-read-group-doubles-3
-array-read-group-doubles-3 c = search needs
 
 group-doubles-requires-3 : tie.Need-group-doubles-requires-3
 group-doubles-requires-3 c κs = search needs
@@ -29,11 +20,4 @@ returns c = rw (c .before .before .group-doubles .ensures, c .before .group-doub
 pub total-doubles-spec : {M : Type 1} → statement M
 total-doubles-spec =
     tie.close
-    (tie.spec
-    array-read-group-doubles
-    group-doubles-requires
-    array-read-group-doubles-2
-    group-doubles-requires-2
-    array-read-group-doubles-3
-    group-doubles-requires-3
-    returns)
+    (tie.spec group-doubles-requires group-doubles-requires-2 group-doubles-requires-3 returns)

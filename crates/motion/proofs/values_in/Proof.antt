@@ -1,24 +1,38 @@
 -- `motion::values_in` meets its contract. Assumes nothing.
-use Rattle.motion.specs.Doubles.{valuesIn, knownUnit}
-use Rattle.motion.proofs.Doubles.{unit-other}
+use Rattle.motion.specs.Doubles.{valuesIn}
+use borrow.Author.Needs.{needs}
 use Rattle.motion.proofs.values_in.Statement.{statement}
 use Rattle.motion.proofs.values_in.Tie as tie
 
+enum-told : tie.Need-enum-told
+enum-told c = search needs
+
+enum-told-2 : tie.Need-enum-told-2
+enum-told-2 c = search needs
+
+enum-told-3 : tie.Need-enum-told-3
+enum-told-3 c = search needs
+
+enum-told-4 : tie.Need-enum-told-4
+enum-told-4 c = search needs
+
 returns : tie.Need-returns
-unfolding valuesIn knownUnit
-returns c = rw (c .match .keys1)
+unfolding valuesIn
+returns c = rw (c .enum-told .given .1)
 
 returns-2 : tie.Need-returns-2
-unfolding valuesIn knownUnit
-returns-2 c = rw (c .match .keys2)
+unfolding valuesIn
+returns-2 c = rw (c .enum-told2 .given .1)
 
 returns-3 : tie.Need-returns-3
-unfolding valuesIn knownUnit
-returns-3 c = rw (c .match .keys3)
+unfolding valuesIn
+returns-3 c = rw (c .enum-told3 .given .1)
 
 returns-4 : tie.Need-returns-4
 unfolding valuesIn
-returns-4 c = rw (unit-other _ (c .match .rest .0 .0 .1) (c .match .rest .0 .1) (c .match .rest .1))
+returns-4 c = rw (c .enum-told4 .given .1)
 
 pub values-in-spec : {M : Type 1} → statement M
-values-in-spec = tie.close (tie.spec returns returns-2 returns-3 returns-4)
+values-in-spec =
+    tie.close
+    (tie.spec enum-told enum-told-2 enum-told-3 enum-told-4 returns returns-2 returns-3 returns-4)

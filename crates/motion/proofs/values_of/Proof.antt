@@ -41,12 +41,15 @@ values-in-requires c κs = search needs
 returns : tie.Need-returns
 unfolding valuesOf
 returns c =
-    let s = c .before .before .before .before .before .before .before in
+    let n = c .before in
+    let o = n .before .before in
+    let p = o .before .before in
+    let s = p .before .before in
     let f : ℤ → Float = λ v. quotient v (s .known-shift .result) in
     let a = s .before .args .t3 in
-    let x = passed w32 f (getD a 0 (pos 0)) (record { sfits = c .before .before .before .before .before .before .reading-double-arg .given }) (c .before .before .before .before .before .reading-double .ensures) in
-    let y = passed w32 f (getD a 1 (pos 0)) (record { sfits = c .before .before .before .before .reading-double-arg2 .given }) (c .before .before .before .reading-double2 .ensures) in
-    let z = passed w32 f (getD a 2 (pos 0)) (record { sfits = c .before .before .reading-double-arg3 .given }) (c .before .reading-double3 .ensures) in
+    let x = passed w32 f (getD a 0 (pos 0)) (record { sfits = p .before .reading-double-arg .given }) (p .reading-double .ensures) in
+    let y = passed w32 f (getD a 1 (pos 0)) (record { sfits = o .before .reading-double-arg2 .given }) (o .reading-double2 .ensures) in
+    let z = passed w32 f (getD a 2 (pos 0)) (record { sfits = n .before .reading-double-arg3 .given }) (n .reading-double3 .ensures) in
     rw (c .values-in .ensures, x, y, z, s .known-shift .ensures)
 
 pub values-of-spec : {M : Type 1} → statement M

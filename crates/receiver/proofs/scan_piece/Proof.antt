@@ -10,7 +10,8 @@ use Rattle.search.specs.Search.{verdictOf}
 use Rattle.session.proofs.Soundness.{Facts, sound-facts}
 use Rattle.session.proofs.PieceRulings.{Admitted, admitted}
 use Rattle.receiver.specs.CallParts.{replyAtOnce}
-use Rattle.receiver.proofs.CallParts.{fed-at-once, count-less, room-of}
+use Rattle.receiver.proofs.CallParts.{count-less, room-of}
+use Rattle.receiver.proofs.OneLength.{fed-at-once}
 use borrow.Author.Needs.{needs}
 use Rattle.receiver.proofs.scan_piece.Statement.{statement}
 use Rattle.receiver.proofs.scan_piece.Tie as tie
@@ -21,41 +22,41 @@ allowed s = admitted (s .args .session) (length (s .args .piece .now)) (s .pre)
 facts : (s : tie.Start) → Facts (s .args .session)
 facts s = sound-facts (s .args .session) (allowed s .sound)
 
-length-of-requires : tie.Need-length-of-requires
-length-of-requires c κs = search needs
-
 scan-on-requires : tie.Need-scan-on-requires
 scan-on-requires c κs =
-    let s = c .before .before .before .before in
+    let s = c .before .before .before in
     let a = s .args in
-    (facts s .accepted, c .before .length-of .ensures, omega arith, room-of (a .session) (facts s) (0 + length (a .piece .now)) (omega (arith, allowed s .piece)))
-
-scan-held-requires : tie.Need-scan-held-requires
-scan-held-requires c κs =
-    let s = c .before .before .before .before in
-    let a = s .args in (
-      facts s .accepted,
-      c .before .length-of .ensures,
-      omega (arith, count-less (a .session) (facts s), c .before .length-of .ensures),
-      room-of (a .session) (facts s) (128 + length (a .piece .now)) (omega (arith, allowed s .piece)),
-    )
+    (facts s .accepted, omega arith, room-of (a .session) (facts s) (0 + length (a .piece .now)) (omega (arith, allowed s .piece)))
 
 returns : tie.Need-returns
 returns c =
-    let s = c .before .before .before .before .before in
+    let s = c .before .before .before .before in
     let a = s .args in
     let v = verdictOf (a .session .setup) in
     let p = a .piece .now in
     c .scan-on .ensures
     ∙ ap (replyAtOnce (a .session) p) (later-zero (first v p))
     ∙ ap (λ (n : ℕ). replyAtOnce (a .session) p (first v (take n (a .session .held) ++ p))) (sym (c .before .if1 .taken))
-    ∙ sym (fed-at-once (a .session) p (allowed s .sound) (allowed s .piece) (allowed s .session))
+    ∙ sym (fed-at-once (a .session) (allowed s .sound) p (allowed s .piece) (allowed s .session))
+
+length-of-requires : tie.Need-length-of-requires
+length-of-requires c κs = search needs
+
+scan-held-requires : tie.Need-scan-held-requires
+scan-held-requires c κs =
+    let s = c .before .before .before .before in
+    let a = s .args in (
+      facts s .accepted,
+      c .length-of .ensures,
+      omega (arith, count-less (a .session) (facts s), c .length-of .ensures),
+      room-of (a .session) (facts s) (128 + length (a .piece .now)) (omega (arith, allowed s .piece)),
+    )
 
 returns-2 : tie.Need-returns-2
 returns-2 c =
     let s = c .before .before .before .before .before in
-    c .scan-held .ensures ∙ sym (fed-at-once (s .args .session) (s .args .piece .now) (allowed s .sound) (allowed s .piece) (allowed s .session))
+    c .scan-held .ensures ∙ sym (fed-at-once (s .args .session) (allowed s .sound) (s .args .piece .now) (allowed s .piece) (allowed s .session))
 
 pub scan-piece-spec : {M : Type 1} → statement M
 scan-piece-spec =
-    tie.close (tie.spec length-of-requires scan-on-requires scan-held-requires returns returns-2)
+    tie.close (tie.spec scan-on-requires returns length-of-requires scan-held-requires returns-2)

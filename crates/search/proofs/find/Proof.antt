@@ -1,13 +1,14 @@
 -- What the scan finds first from i on, after i bytes passed over, is what it finds in the whole.
 use Prim.Native.Nat.{ℕ, _+_, _-_, _≤_, _<_}
-use mathlib.Core.Path.{_≡_, sym, ap, _∙_}
+use mathlib.Core.Path.{_≡_, refl, sym, ap, _∙_}
 use mathlib.Core.Bool.{Bool, true}
 use mathlib.Core.List.{List, []}
 use mathlib.Core.Logic.{⊎-elim}
 use native.Mathlib.Nat.{add-zero}
 use native.Mathlib.Omega.{arith}
 use borrow.Author.Needs.{needs}
-use lib.ListN.{length, take, drop, drop-of-length-le}
+use lib.ListN.{length, take, drop, length-drop, drop-of-length-le}
+use lib.Seq.{length-take-le}
 use Rattle.integers.specs.Bytes.{AllBytes}
 use Rattle.integers.proofs.Bytes.{bytes-take, bytes-drop}
 use Rattle.setup.specs.Setup.{lengthOf}
@@ -15,10 +16,12 @@ use Rattle.setup.specs.declared.Setup.{Setup}
 use Rattle.wire.specs.Acceptable.{acceptable}
 use Rattle.scan.specs.Scan.{first, later}
 use Rattle.scan.proofs.ScanLaws.{later-zero, later-later}
+use Rattle.scan.proofs.OneLength.{identifier-told, other-told}
 use Rattle.scan.proofs.PlaceLaws.{passes-other, passes-wrong, holds-short, hands-right}
-use Rattle.search.specs.declared.Place.the-variants.{Whole, Open}
-use Rattle.search.specs.Search.{isDatagram, verdictOf, placeOf}
+use Rattle.search.specs.declared.Place.the-variants.{Complete, Undecided}
+use Rattle.search.specs.Search.{isDatagram, rulesOf, verdictOf, placeOf}
 use Rattle.search.proofs.ByteLists.{bytes-datagram}
+use Rattle.search.proofs.Datagrams.{datagram-least}
 use Rattle.search.proofs.Places.{part-of}
 use Rattle.search.proofs.find.Statement.{statement}
 use Rattle.search.proofs.find.Tie as tie
@@ -59,8 +62,9 @@ returns c =
     let u = a .setup in
     let p = a .bytes .now in
     let size = c .before .before .before .before .before .length-of .ensures in
-    let e = holds-short (u .identifier) (lengthOf u) (isDatagram u) p (l .i) (omega arith) (c .before .if1 .taken) (omega (arith, size, c .if2 .taken)) in
-    ap Open (sym (add-zero (l .i))) ∙ sym (ap placeOf (l .inv .0 ∙ ap (later (l .i)) e))
+    let told = identifier-told (u .identifier) (lengthOf u) _ (c .before .if1 .taken) in
+    let e = holds-short (rulesOf u) p (l .i) (omega arith) told (omega (arith, size, c .if2 .taken)) in
+    ap Undecided (sym (add-zero (l .i))) ∙ sym (ap placeOf (l .inv .0 ∙ ap (later (l .i)) e))
 
 add-end : tie.Need-add-end Inv-loop μ-loop
 add-end c = omega arith
@@ -87,9 +91,14 @@ returns-2 c =
     let all : AllBytes p = record { each = λ i. omega (arith, c .before .before .before .before .before .shared-slice-known2 .given i) } in
     let right : isDatagram u (take (lengthOf u) (drop (l .i) p)) ≡ true =
     tested u p (l .i) _ all size (sym (c .before .is-acceptable .ensures) ∙ c .if3 .taken) in
-    let enough = c .before .before .before .if2 .left in
-    let e = hands-right (u .identifier) (lengthOf u) (isDatagram u) p (l .i) (omega arith) (c .before .before .before .before .if1 .taken) (omega (arith, size, enough)) right in
-    ap Whole (sym (add-zero (l .i))) ∙ sym (ap placeOf (l .inv .0 ∙ ap (later (l .i)) e))
+    let enough : lengthOf u ≤ length p - l .i = omega (arith, size, c .before .before .before .if2 .left) in
+    let long : length (take (lengthOf u) (drop (l .i) p)) ≡ lengthOf u =
+    length-take-le (lengthOf u) (drop (l .i) p) (omega (arith, length-drop (l .i) p)) in
+    let told = identifier-told (u .identifier) (lengthOf u) _ (c .before .before .before .before .if1 .taken) in
+    let e = hands-right (rulesOf u) p (l .i) (omega arith) told (omega (arith, datagram-least u _ right)) enough right in
+    ap (Complete (l .i)) (size ∙ sym long)
+    ∙ ap (λ (n : ℕ). Complete n (length (take (lengthOf u) (drop (l .i) p)))) (sym (add-zero (l .i)))
+    ∙ sym (ap placeOf (l .inv .0 ∙ ap (later (l .i)) e))
 
 add-i : tie.Need-add-i Inv-loop μ-loop
 add-i c = omega arith
@@ -109,9 +118,9 @@ loop-again c =
     let e : first (verdictOf u) (drop (l .i) p) ≡ later 1 (first (verdictOf u) (drop (l .i + 1) p)) =
     ⊎-elim
     (λ w.
-    passes-wrong (u .identifier) (lengthOf u) (isDatagram u) p (l .i) h (w .0 .taken) (omega (arith, size, w .1 .left))
+    passes-wrong (rulesOf u) p (l .i) h (identifier-told (u .identifier) (lengthOf u) _ (w .0 .taken)) (omega (arith, size, w .1 .left))
     (tested u p (l .i) _ all size (sym (w .3 .ensures) ∙ w .4 .left)))
-    (λ w. passes-other (u .identifier) (lengthOf u) (isDatagram u) p (l .i) h (w .left))
+    (λ w. passes-other (rulesOf u) p (l .i) h (other-told (u .identifier) (lengthOf u) _ (w .left)) refl)
     (c .if1 .came) in
     (l .inv .0 ∙ ap (later (l .i)) e ∙ later-later (l .i) 1 (first (verdictOf u) (drop (l .i + 1) p)), omega arith)
 

@@ -1,12 +1,14 @@
 -- `session::counts_right` meets its contract. Assumes nothing.
-use Prim.Native.Nat.{ℕ, _+_, _*_, _<_}
-use mathlib.Core.Path.{_≡_, refl, sym}
+use Prim.Native.Nat.{ℕ, _+_, _*_, _^_, _<_}
+use mathlib.Core.Path.{_≡_, refl, sym, ap}
 use mathlib.Core.Bool.{Bool, true, false, _&&_}
 use native.Mathlib.Omega.{arith}
 use native.Mathlib.Nat.{mul-le-mul-right}
 use lib.Dec.{eqb, leb}
 use borrow.Author.Needs.{needs}
 use borrow.Author.Tests.{lt-leb, eqb-true}
+use Rattle.search.specs.Search.{limitsOf}
+use Rattle.session.specs.declared.Limits.{Limits}
 use Rattle.session.proofs.counts_right.Statement.{statement}
 use Rattle.session.proofs.counts_right.Tie as tie
 
@@ -18,24 +20,52 @@ over x f limit h = by (eqb x f) refl
     by true e = lt-leb f limit (omega (arith, eqb-true x f e))
     by false e = refl
 
+-- the limit that the code goes by
+most : (c : tie.After-limits-of) → c .limits-of .result .session ≡ limitsOf (c .before .args .setup) .session
+most c = ap (λ (l : Limits). l .session) (c .limits-of .ensures)
+
+limits-of-requires : tie.Need-limits-of-requires
+limits-of-requires c κs = search needs
+
 returns : tie.Need-returns
-returns c = sym (over (c .before .args .size * c .before .args .datagrams + c .before .args .passed + c .before .args .held) (c .before .args .fed) 17179869184 (omega (arith, mul-le-mul-right (c .before .args .datagrams) (c .before .pre .0))))
+returns c =
+    let s = c .before .before in
+    let a = s .args in
+    sym
+    (over (a .size * a .datagrams + a .passed + a .held) (a .fed) (limitsOf (a .setup) .session)
+    (omega (arith, most (c .before), mul-le-mul-right (a .datagrams) (s .pre .0))))
 
 returns-2 : tie.Need-returns-2
-returns-2 c = sym (over (c .before .before .args .size * c .before .before .args .datagrams + c .before .before .args .passed + c .before .before .args .held) (c .before .before .args .fed) 17179869184 (omega arith))
+returns-2 c =
+    let a = c .before .before .before .args in
+    sym (over (a .size * a .datagrams + a .passed + a .held) (a .fed) (limitsOf (a .setup) .session) (omega (arith, most (c .before .before))))
+
+-- the sum of counts within the limit fits
+small : (c : tie.Else2) → let a = c .before .before .before .args in a .size * a .datagrams + a .passed + a .held < 2 ^ 64
+small c =
+    let s = c .before .before .before in
+    omega (arith, most (c .before .before), mul-le-mul-right (s .args .datagrams) (s .pre .1))
 
 mul-result : tie.Need-mul-result
-mul-result c = omega (arith, mul-le-mul-right (c .before .before .args .datagrams) (c .before .before .pre .1))
+mul-result c = omega (arith, small c)
 
 add-result : tie.Need-add-result
-add-result c = omega (arith, mul-le-mul-right (c .before .before .args .datagrams) (c .before .before .pre .1))
+add-result c = omega (arith, small c)
 
 add-result-2 : tie.Need-add-result-2
-add-result-2 c = omega (arith, mul-le-mul-right (c .before .before .args .datagrams) (c .before .before .pre .1))
+add-result-2 c = omega (arith, small c)
 
 returns-3 : tie.Need-returns-3
-returns-3 c = search needs
+returns-3 c = rw (most (c .before .before))
 
 pub counts-right-spec : {M : Type 1} → statement M
 counts-right-spec =
-    tie.close (tie.spec returns returns-2 mul-result add-result add-result-2 returns-3)
+    tie.close
+    (tie.spec
+    limits-of-requires
+    returns
+    returns-2
+    mul-result
+    add-result
+    add-result-2
+    returns-3)

@@ -10,7 +10,7 @@ use borrow.Author.Needs.{needs}
 use Rattle.setup.specs.Setup.{rulingOn, lengthOf}
 use Rattle.setup.proofs.Refusals.{accepted-length}
 use Rattle.integers.proofs.Ranges.{and-split}
-use Rattle.scan.specs.Front.{heldRule}
+use Rattle.search.specs.Search.{limitsOf, rulesOf}
 use Rattle.session.specs.Session.{isAccepted, heldBytes, heldRight, restRight, sumRight, fedRight}
 use Rattle.session.proofs.Soundness.{accepted-true, in-parts, counts-few}
 use Rattle.session.proofs.is_sound.Statement.{statement}
@@ -29,7 +29,7 @@ count-within : (c : tie.Else2) → c .before .before .before .before .before .be
 count-within c =
     let s = c .before .before .before .before .before .before .before .before .before .before .args .session in
     let p = and-split (heldRight s) (restRight s) (held c) in
-    let q = and-split (leb (s .count) (length (s .held))) (heldRule (s .setup .identifier) (lengthOf (s .setup)) (heldBytes s)) (p .0) in
+    let q = and-split (leb (s .count) (length (s .held))) (rulesOf (s .setup) .mayHold (heldBytes s)) (p .0) in
     omega (arith, leb-true (s .count) (length (s .held)) (q .0), held-long (c .before .before .before .before .before .before .before .before .before .before))
 
 counts : (c : tie.Else3) → (sumRight (c .before .before .before .before .before .before .before .before .before .before .before .before .args .session) && fedRight (c .before .before .before .before .before .before .before .before .before .before .before .before .args .session)) ≡ true
@@ -66,7 +66,9 @@ axes-right-requires : tie.Need-axes-right-requires
 axes-right-requires c κs =
     let range = accepted-length (c .before .before .before .before .before .before .before .before .before .before .before .before .args .session .setup) (accepted-true _ (accepted (c .before .before .before .before .before))) in
     let s = c .before .before .before .before .before .before .before .before .before .before .before .before .args .session in
-    counts-few (lengthOf (s .setup)) (s .history .datagrams .0) (s .passed) (s .count) (s .fed) (range .0) (counts c)
+    let few =
+    counts-few (lengthOf (s .setup)) (s .history .datagrams .0) (s .passed) (s .count) (s .fed) (limitsOf (s .setup) .session) (omega (arith, range .0)) (counts c) in
+    omega (arith, few)
 
 returns-4 : tie.Need-returns-4
 returns-4 c = rw (in-parts (c .before .before .before .before .before .before .before .before .before .before .before .before .before .args .session), accepted (c .before .before .before .before .before .before), held (c .before .before .before), counts (c .before), c .axes-right .ensures)

@@ -1,9 +1,7 @@
-use Prim.Native.Nat.{ℕ, _/_, _%_, _<_}
+use Prim.Native.Nat.{ℕ, _<_}
 use native.Mathlib.Omega.{arith}
 use mathlib.Core.Path.{_∙_}
-use Rattle.text.specs.Decimal.{digits, lastThree}
-use Rattle.text.proofs.Digits.{digits-more}
-use Rattle.text.proofs.Putting.{then-put, room-first, room-then}
+use Rattle.text.proofs.Putting.{room-thousands, room-three, then-three}
 use borrow.Fn.Kinds.{In}
 use borrow.Fn.PlainCycle.{Measures, is, falls, and}
 use Rattle.text.proofs.put_digits.Reads as put-digits
@@ -74,9 +72,7 @@ put-digits-put-digits-requires : (t : ℕ) → put-digits-lts.Need-put-digits-re
   put-three-reads.Learnt,
 ) (put-digits-at t) put-digits.Post
 put-digits-put-digits-requires t c κs =
-    let s = c .before .before .before in
-    let n = s .args .n in
-    (omega arith, room-first (s .args .at) (digits (n / 1000)) (lastThree (n % 1000)) (rw (digits-more n (omega arith)) at (s .pre .1)))
+    let s = c .before .before .before in (omega arith, room-thousands (s .args .n) (omega arith) (s .args .at) (s .pre .1))
 
 put-digits-cast-put-three : (t : ℕ) → put-digits-lts.Need-cast-put-three (
   put-billion-reads.Asked,
@@ -97,9 +93,9 @@ put-digits-put-three-requires : (t : ℕ) → put-digits-lts.Need-put-three-requ
   put-three-reads.Learnt,
 ) (put-digits-at t) put-digits.Post
 put-digits-put-three-requires t c κs =
-    let s = c .before .before .before .before .before .before .before in
-    let n = s .args .n in
-    room-then (c .before .before .before .put-digits .ensures) (lastThree (n % 1000)) (rw (digits-more n (omega (arith, c .before .before .before .before .before .if1 .left))) at (s .pre .1))
+    let thousands = c .before .before .before in
+    let s = thousands .before .before .before .before in
+    room-three (s .args .n) (omega (arith, thousands .before .before .if1 .left)) (thousands .put-digits .ensures) (s .pre .1)
 
 put-digits-same-length-2 : (t : ℕ) → put-digits-lts.Need-same-length-2 (
   put-billion-reads.Asked,
@@ -120,9 +116,9 @@ put-digits-returns-2 : (t : ℕ) → put-digits-lts.Need-returns-2 (
   put-three-reads.Learnt,
 ) (put-digits-at t) put-digits.Post
 put-digits-returns-2 t c =
-    let p = c .before .before .before .before .before .before in
-    let s = p .before .before .before .before in
-    rw (digits-more (s .args .n) (omega (arith, p .before .before .if1 .left))) (then-put (p .put-digits .ensures) (c .before .before .put-three .ensures))
+    let thousands = c .before .before .before .before .before .before in
+    let s = thousands .before .before .before .before in
+    then-three (s .args .n) (omega (arith, thousands .before .before .if1 .left)) (thousands .put-digits .ensures) (c .before .before .put-three .ensures)
 
 pub +put-digits-spec : {M : Type 1} → statement M
 +put-digits-spec = close μ-put-digits λ t. put-digits-lts.spec (

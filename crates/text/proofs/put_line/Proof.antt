@@ -1,57 +1,48 @@
-use borrow.Author.Needs.{needs}
 use mathlib.Core.Path.{_≡_, ap, _∙_}
 use mathlib.Core.List.{List, [], _∷_, _++_}
 use Prim.Native.Nat.{ℕ, _+_, _≤_}
 use native.Mathlib.Nat.{zero-add}
 use native.Mathlib.Omega.{arith}
 use lib.ListN.{length, length-set}
-use Rattle.text.specs.Putting.{behind, frontText}
-use Rattle.text.specs.TextLine.{groupsFields, lineText}
+use Rattle.text.specs.Putting.{behind, headingText}
+use Rattle.text.specs.TextLine.{groupsFields, shownText}
 use Rattle.text.proofs.Fields.{line-text}
 use Rattle.text.proofs.Putting.{put-byte, then-put, room-first, room-then}
 use Rattle.text.proofs.put_line.Statement.{statement}
 use Rattle.text.proofs.put_line.Tie as tie
 
--- the line's front, and the fields of the groups by what the callees say of the setup
-abbrev front : tie.Start → List ℕ
-front s = frontText (s .args .front .ordinal) (s .args .front .counter) (s .args .front .latency) (s .args .front .gap)
+-- the line's heading, and what follows it
+abbrev heading : tie.Start → List ℕ
+heading s = headingText (s .args .heading .ordinal) (s .args .heading .counter) (s .args .heading .latency) (s .args .heading .gap)
 
-abbrev groups : tie.After-kept-groups → List ℕ
-groups c =
-    let s = c .before .before .before in
-    behind (groupsFields (c .before .groups-carried .result) (c .kept-groups .result) (s .args .readings) (s .args .statuses) (s .args .totals))
+abbrev groups : tie.Start → List ℕ
+groups s = behind (groupsFields (s .args .shown .carried) (s .args .shown .kept) (s .args .readings) (s .args .statuses) (s .args .totals))
 
-abbrev rest : tie.After-kept-groups → List ℕ
-rest c = groups c ++ 0x0A ∷ []
+abbrev rest : tie.Start → List ℕ
+rest s = groups s ++ 0x0A ∷ []
 
-text : (c : tie.After-kept-groups) → let s = c .before .before .before in
-    lineText (s .args .setup) (s .args .front .ordinal) (s .args .front .counter) (s .args .front .latency) (s .args .front .gap) (s .args .readings) (s .args .statuses) (s .args .totals)
-    ≡ front s ++ rest c
-text c =
-    let s = c .before .before .before in
-    rw (c .before .groups-carried .ensures, c .kept-groups .ensures)
-    (line-text (s .args .setup) (s .args .front .ordinal) (s .args .front .counter) (s .args .front .latency) (s .args .front .gap) (s .args .readings) (s .args .statuses) (s .args .totals))
+text : (s : tie.Start)
+    → shownText (s .args .shown) (s .args .heading .ordinal) (s .args .heading .counter) (s .args .heading .latency) (s .args .heading .gap) (s .args .readings) (s .args .statuses) (s .args .totals)
+    ≡ heading s ++ rest s
+text s =
+    line-text (s .args .shown) (s .args .heading .ordinal) (s .args .heading .counter) (s .args .heading .latency) (s .args .heading .gap) (s .args .readings) (s .args .statuses) (s .args .totals)
 
-room-all : (c : tie.After-kept-groups) → 0 + length (front (c .before .before .before) ++ rest c) ≤ length (c .before .before .before .args .buffer .now)
-room-all c = omega (arith, ap length (text c), c .before .before .before .pre)
+room-all : (s : tie.Start) → 0 + length (heading s ++ rest s) ≤ length (s .args .buffer .now)
+room-all s = omega (arith, ap length (text s), s .pre)
 
-room-rest : (c : tie.After-put-front) → c .put-front .result + length (rest (c .before .before)) ≤ length (c .put-front .last .0)
-room-rest c = room-then (c .put-front .ensures) (rest (c .before .before)) (room-all (c .before .before))
+room-rest : (c : tie.After-put-heading) → c .put-heading .result + length (rest (c .before .before .before .before .before)) ≤ length (c .put-heading .last .0)
+room-rest c = let s = c .before .before .before .before .before in room-then (c .put-heading .ensures) (rest s) (room-all s)
 
 room-end : (c : tie.After-put-groups) → c .put-groups .result + 1 ≤ length (c .put-groups .last .0)
 room-end c = room-then (c .put-groups .ensures) (0x0A ∷ []) (room-rest (c .before .before .before .before))
 
-groups-carried-requires : tie.Need-groups-carried-requires
-groups-carried-requires c κs = search needs
-
-kept-groups-requires : tie.Need-kept-groups-requires
-kept-groups-requires c κs = search needs
-
-put-front-requires : tie.Need-put-front-requires
-put-front-requires c κs = rw (zero-add (length (front (c .before .before .before .before)))) at (room-first 0 (front (c .before .before .before .before)) (rest (c .before)) (room-all (c .before)))
+put-heading-requires : tie.Need-put-heading-requires
+put-heading-requires c κs = let s = c .before .before .before .before in rw (zero-add (length (heading s))) at (room-first 0 (heading s) (rest s) (room-all s))
 
 put-groups-requires : tie.Need-put-groups-requires
-put-groups-requires c κs = room-first (c .before .before .before .put-front .result) (groups (c .before .before .before .before .before)) (0x0A ∷ []) (room-rest (c .before .before .before))
+put-groups-requires c κs =
+    let p = c .before .before .before in
+    room-first (p .put-heading .result) (groups (p .before .before .before .before .before)) (0x0A ∷ []) (room-rest p)
 
 slice-write-buffer : tie.Need-slice-write-buffer
 slice-write-buffer c = omega (arith, room-end (c .before .before))
@@ -60,18 +51,19 @@ add-result : tie.Need-add-result
 add-result c = omega (arith, room-end (c .before .before))
 
 same-length : tie.Need-same-length
-same-length c = simp length-set (c .before .before .put-groups .kept .0 ∙ c .before .before .before .before .before .before .put-front .kept .0)
+same-length c = let p = c .before .before in simp length-set (p .put-groups .kept .0 ∙ p .before .before .before .before .put-heading .kept .0)
 
 returns : tie.Need-returns
-returns c = rw (text (c .before .before .before .before .before .before .before .before)) (then-put (c .before .before .before .before .before .before .put-front .ensures) (then-put (c .before .before .put-groups .ensures) put-byte))
+returns c =
+    let groups-put = c .before .before in
+    let heading-put = groups-put .before .before .before .before in
+    rw (text (heading-put .before .before .before .before .before)) (then-put (heading-put .put-heading .ensures) (then-put (groups-put .put-groups .ensures) put-byte))
 
 pub put-line-spec : {M : Type 1} → statement M
 put-line-spec =
     tie.close
     (tie.spec
-    groups-carried-requires
-    kept-groups-requires
-    put-front-requires
+    put-heading-requires
     put-groups-requires
     slice-write-buffer
     add-result

@@ -1,55 +1,12 @@
 use borrow.Author.Needs.{needs}
-use Prim.Native.Nat.{ℕ, _≤_}
-use native.Mathlib.Omega.{arith}
-use mathlib.Core.Bool.{false}
-use mathlib.Core.List.{List, [], _∷_}
-use lib.ListN.{length, getD}
-use mir.Syntax.{w8}
-use mir.Val.{Fits}
-use denote.Laws.{Is}
-use denote.Enum.Declared.{row}
-use denote.Enum.Laws.{val}
-use Rattle.motion.proofs.Gap as gap
-use Rattle.motion.proofs.Gap.Laws as laws
-use Rattle.motion.specs.declared.Gap.{Gap}
-use Rattle.motion.specs.declared.Gap.the-variants.{Missed, OffStep}
-use Rattle.text.proofs.Longest.{MissedFits, longest}
-use mathlib.Core.Path.{_≡_, sym, _∙_}
+use mathlib.Core.Path.{_≡_, sym, ap, _∙_}
 use Rattle.setup.specs.Setup.{rulingOn}
 use Rattle.setup.specs.declared.Ruling.the-variants.{Accepted}
-use Rattle.text.specs.TextLine.{lineText, outside, longestLine}
-use Rattle.text.proofs.Answers.{inside, setup-refused, values-refused, apart-written, put-written}
+use Rattle.text.specs.TextLine.{shownBy, shownAnswer, shownBuffer}
+use Rattle.text.specs.declared.Shown.{Shown}
+use Rattle.text.proofs.Answers.{setup-refused, accepted-answer, accepted-buffer}
 use Rattle.text.proofs.write_line.Statement.{statement}
 use Rattle.text.proofs.write_line.Tie as tie
-
-abbrev line : tie.Start → List ℕ
-line s = lineText (s .args .setup) (s .args .ordinal) (s .args .counter) (s .args .latency) (s .args .gap) (s .args .readings) (s .args .statuses) (s .args .totals)
-
--- each number is one of its type
-by : (g : Gap) → Is (row gap.the-type) g (val gap.the-type laws.the-laws g ∷ []) → MissedFits g
-by (Missed d) p = omega (arith, p)
-by OffStep p = tt
-
-gap-fits : (c : tie.Start) → MissedFits (c .args .gap)
-gap-fits c = by (c .args .gap) (c .good .1 .1 .1 .1 .1 .0)
-
-status-fits : (c : tie.Start) (i : ℕ) → Fits w8 (getD (c .args .statuses) i 0)
-status-fits c i = search needs
-
--- only 14 is left to refuse the line
-accepted : (c : tie.After-outside) → rulingOn (c .before .before .before .before .before .args .setup) ≡ Accepted
-accepted c = sym (c .before .before .before .judge .ensures) ∙ c .before .enum-told .given .1
-
-inside-limits : (c : tie.Else1) → let a = c .before .before .before .before .before .before .args in outside (a .ordinal) (a .readings) (a .totals) ≡ false
-inside-limits c = sym (c .before .outside .ensures) ∙ c .if1 .left
-
-short : (c : tie.Else1) → length (line (c .before .before .before .before .before .before)) ≤ longestLine
-short c =
-    let s = c .before .before .before .before .before .before in
-    let a = s .args in
-    let h = inside (a .ordinal) (a .readings) (a .totals) (inside-limits c) in
-    longest (a .setup) (a .ordinal) (a .counter) (a .latency) (a .gap) (a .readings) (a .statuses) (a .totals)
-    (omega arith) (omega arith) (omega arith) (gap-fits s) (λ i. status-fits s i .fits) (h .0) (h .1)
 
 judge-requires : tie.Need-judge-requires
 judge-requires c κs = search needs
@@ -65,39 +22,29 @@ returns c =
 enum-told : tie.Need-enum-told
 enum-told c = search needs
 
-outside-requires : tie.Need-outside-requires
-outside-requires c κs = search needs
+shown-by-requires : tie.Need-shown-by-requires
+shown-by-requires c κs = search needs
 
-returns-2 : tie.Need-returns-2
-returns-2 c =
-    let a = c .before .before .before .before .before .before .args in
-    values-refused (a .buffer .now) (a .setup) (a .ordinal) (a .counter) (a .latency) (a .gap) (a .readings) (a .statuses) (a .totals) (accepted (c .before)) (sym (c .before .outside .ensures) ∙ c .if1 .taken)
-
-longest-line-requires : tie.Need-longest-line-requires
-longest-line-requires c κs = search needs
-
-write-apart-requires : tie.Need-write-apart-requires
-write-apart-requires c κs = short (c .before .before .before)
+write-shown-requires : tie.Need-write-shown-requires
+write-shown-requires c κs = search needs
 
 same-length : tie.Need-same-length
 same-length c = search needs
 
-returns-3 : tie.Need-returns-3
-returns-3 c =
-    let a = c .before .before .before .before .before .before .before .before .before .before .before .before .args in
-    apart-written (a .buffer .now) (a .setup) (a .ordinal) (a .counter) (a .latency) (a .gap) (a .readings) (a .statuses) (a .totals) (accepted (c .before .before .before .before .before .before .before)) (inside-limits (c .before .before .before .before .before .before)) (c .before .before .write-apart .ensures)
-
-put-line-requires : tie.Need-put-line-requires
-put-line-requires c κs = omega (arith, short (c .before .before .before), c .before .before .longest-line .ensures, c .before .if2 .left)
-
-same-length-2 : tie.Need-same-length-2
-same-length-2 c = search needs
-
-returns-4 : tie.Need-returns-4
-returns-4 c =
-    let a = c .before .before .before .before .before .before .before .before .before .before .before .before .args in
-    put-written (a .buffer .now) (a .setup) (a .ordinal) (a .counter) (a .latency) (a .gap) (a .readings) (a .statuses) (a .totals) (accepted (c .before .before .before .before .before .before .before)) (inside-limits (c .before .before .before .before .before .before))
-    (omega (arith, short (c .before .before .before .before .before .before), c .before .before .before .before .before .longest-line .ensures, c .before .before .before .before .if2 .left)) (c .before .before .put-line .ensures)
+returns-2 : tie.Need-returns-2
+returns-2 c =
+    let w = c .before .before in
+    let told = w .before .before .before in
+    let a = told .before .before .before .before .args in
+    let accepted : rulingOn (a .setup) ≡ Accepted = sym (told .before .before .judge .ensures) ∙ told .enum-told .given .1 in
+    let shows : w .before .shown-by .result ≡ shownBy (a .setup) = w .before .shown-by .ensures in (
+      w .write-shown .ensures .0
+          ∙ ap (λ (shown : Shown). shownAnswer (a .buffer .now) shown (a .ordinal) (a .counter) (a .latency) (a .gap) (a .readings) (a .statuses) (a .totals)) shows
+          ∙ accepted-answer (a .buffer .now) (a .setup) (a .ordinal) (a .counter) (a .latency) (a .gap) (a .readings) (a .statuses) (a .totals) accepted,
+      w .write-shown .ensures .1
+          ∙ ap (λ (shown : Shown). shownBuffer (a .buffer .now) shown (a .ordinal) (a .counter) (a .latency) (a .gap) (a .readings) (a .statuses) (a .totals)) shows
+          ∙ accepted-buffer (a .buffer .now) (a .setup) (a .ordinal) (a .counter) (a .latency) (a .gap) (a .readings) (a .statuses) (a .totals) accepted,
+    )
 
 pub write-line-spec : {M : Type 1} → statement M
 write-line-spec =
@@ -107,12 +54,7 @@ write-line-spec =
     enum-known-ruling
     returns
     enum-told
-    outside-requires
-    returns-2
-    longest-line-requires
-    write-apart-requires
+    shown-by-requires
+    write-shown-requires
     same-length
-    returns-3
-    put-line-requires
-    same-length-2
-    returns-4)
+    returns-2)

@@ -1,9 +1,10 @@
 use native.Mathlib.Omega.{arith}
 use mir.Syntax.{w32}
+use Rattle.integers.proofs.Signed.{kept}
 use borrow.Author.Tests.{lt-ltb}
 use Rattle.integers.specs.Bytes.{bigEndian, twosComplement, signedBytes}
-use Rattle.integers.proofs.Signed.{kept}
 use Rattle.wire.specs.Places.{fieldsAt}
+use borrow.Author.Needs.{needs}
 use Rattle.wire.proofs.aux_at.Statement.{statement}
 use Rattle.wire.proofs.aux_at.Tie as tie
 
@@ -12,7 +13,7 @@ unfolding fieldsAt signedBytes twosComplement bigEndian
 returns c = rw (c .if1 .taken)
 
 reading-at-requires : tie.Need-reading-at-requires
-reading-at-requires c κs = let h = c .before .before .pre (omega arith) in omega arith
+reading-at-requires c κs = search needs
 
 returns-2 : tie.Need-returns-2
 unfolding fieldsAt

@@ -1,64 +1,67 @@
-use mathlib.Core.Path.{sym}
 use native.Mathlib.Omega.{arith}
+use mathlib.Core.Bool.{false}
+use mathlib.Core.Path.{sym}
 use lib.Seq.{length-take-le}
-use Rattle.wire.specs.Acceptable.{checkRight}
-use Rattle.wire.proofs.FieldPlaces.{four-at}
+use Rattle.setup.proofs.Layouts.{length-parts}
+use Rattle.wire.proofs.Acceptance.{check-bytes}
 use borrow.Author.Needs.{needs}
 use Rattle.wire.proofs.check_right.Statement.{statement}
 use Rattle.wire.proofs.check_right.Tie as tie
 
-shared-slice-read-check-of : tie.Need-shared-slice-read-check-of
-shared-slice-read-check-of c = search needs
+check-place-requires : tie.Need-check-place-requires
+check-place-requires c κs = search needs
 
-add-check-of : tie.Need-add-check-of
-add-check-of c = search needs
+shared-slice-read-four-bytes-of : tie.Need-shared-slice-read-four-bytes-of
+shared-slice-read-four-bytes-of c = omega (arith, c .before .check-place .ensures, length-parts (c .before .before .before .args .row) false, c .before .before .before .pre)
 
-shared-slice-read-check-of-2 : tie.Need-shared-slice-read-check-of-2
-shared-slice-read-check-of-2 c = search needs
+add-four-bytes-of : tie.Need-add-four-bytes-of
+add-four-bytes-of c = search needs
 
-add-check-of-2 : tie.Need-add-check-of-2
-add-check-of-2 c = search needs
+shared-slice-read-four-bytes-of-2 : tie.Need-shared-slice-read-four-bytes-of-2
+shared-slice-read-four-bytes-of-2 c = omega (arith, c .before .before .check-place .ensures, length-parts (c .before .before .before .before .args .row) false, c .before .before .before .before .pre)
 
-shared-slice-read-check-of-3 : tie.Need-shared-slice-read-check-of-3
-shared-slice-read-check-of-3 c = search needs
+add-four-bytes-of-2 : tie.Need-add-four-bytes-of-2
+add-four-bytes-of-2 c = search needs
 
-add-check-of-3 : tie.Need-add-check-of-3
-add-check-of-3 c = search needs
+shared-slice-read-four-bytes-of-3 : tie.Need-shared-slice-read-four-bytes-of-3
+shared-slice-read-four-bytes-of-3 c = omega (arith, c .before .before .before .check-place .ensures, length-parts (c .before .before .before .before .before .args .row) false, c .before .before .before .before .before .pre)
 
-shared-slice-read-check-of-4 : tie.Need-shared-slice-read-check-of-4
-shared-slice-read-check-of-4 c = search needs
+add-four-bytes-of-3 : tie.Need-add-four-bytes-of-3
+add-four-bytes-of-3 c = search needs
 
-check-of-requires : tie.Need-check-of-requires
-check-of-requires c κs = search needs
+shared-slice-read-four-bytes-of-4 : tie.Need-shared-slice-read-four-bytes-of-4
+shared-slice-read-four-bytes-of-4 c = omega (arith, c .before .before .before .before .check-place .ensures, length-parts (c .before .before .before .before .before .before .args .row) false, c .before .before .before .before .before .before .pre)
+
+four-bytes-of-requires : tie.Need-four-bytes-of-requires
+four-bytes-of-requires c κs = search needs
 
 slice-aggregate-crc32 : tie.Need-slice-aggregate-crc32
 slice-aggregate-crc32 c =
-    let s = c .before .before .before .before .before .before .before .args .s .now in
-    let place = c .before .before .before .before .before .before .before .args .place in
-    sym (length-take-le place s (omega arith))
+    let s = c .before .before .before .before .before .before .before .before .args .s .now in
+    sym (length-take-le (c .before .before .before .before .before .before .check-place .result) s (omega (arith, c .before .before .before .before .before .before .check-place .ensures, length-parts (c .before .before .before .before .before .before .before .before .args .row) false, c .before .before .before .before .before .before .before .before .pre)))
 
 crc32-requires : tie.Need-crc32-requires
 crc32-requires c κs = search needs
 
 returns : tie.Need-returns
-unfolding checkRight
 returns c =
-    let s = c .before .before .before .before .before .before .before .before .args .s .now in
-    let place = c .before .before .before .before .before .before .before .before .args .place in
-    rw (c .before .before .check-of .ensures, c .crc32 .ensures, four-at s place (c .before .before .before .before .before .before .before .before .pre))
+    let r = c .before .before .before .before .before .before .before .before .before .args .row in
+    let s = c .before .before .before .before .before .before .before .before .before .args .s .now in
+    rw (check-bytes r s (omega (arith, length-parts r false, c .before .before .before .before .before .before .before .before .before .pre)), c .before .before .four-bytes-of .ensures, c .crc32 .ensures, c .before .before .before .before .before .before .before .check-place .ensures)
 
 pub check-right-spec : {M : Type 1} → statement M
 check-right-spec =
     tie.close
     (tie.spec
-    shared-slice-read-check-of
-    add-check-of
-    shared-slice-read-check-of-2
-    add-check-of-2
-    shared-slice-read-check-of-3
-    add-check-of-3
-    shared-slice-read-check-of-4
-    check-of-requires
+    check-place-requires
+    shared-slice-read-four-bytes-of
+    add-four-bytes-of
+    shared-slice-read-four-bytes-of-2
+    add-four-bytes-of-2
+    shared-slice-read-four-bytes-of-3
+    add-four-bytes-of-3
+    shared-slice-read-four-bytes-of-4
+    four-bytes-of-requires
     slice-aggregate-crc32
     crc32-requires
     returns)

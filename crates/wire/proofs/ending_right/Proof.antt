@@ -1,27 +1,42 @@
-use borrow.Author.Tests.{ne-eqb}
-use Rattle.wire.specs.Acceptable.{endingRight}
+use native.Mathlib.Omega.{arith}
+use mathlib.Core.Path.{sym}
+use Rattle.wire.proofs.Acceptance.{ending-bytes, ending-none}
 use borrow.Author.Needs.{needs}
 use Rattle.wire.proofs.ending_right.Statement.{statement}
 use Rattle.wire.proofs.ending_right.Tie as tie
 
+length-of-requires : tie.Need-length-of-requires
+length-of-requires c κs = search needs
+
 shared-slice-read-result : tie.Need-shared-slice-read-result
-shared-slice-read-result c = search needs
+shared-slice-read-result c =
+    let h = rw (c .before .before .if1 .taken) at (c .before .before .before .before .pre) in
+    omega (arith, c .before .length-of .ensures)
 
 add-result : tie.Need-add-result
 add-result c = search needs
 
 shared-slice-read-result-2 : tie.Need-shared-slice-read-result-2
-shared-slice-read-result-2 c = search needs
+shared-slice-read-result-2 c =
+    let h = rw (c .before .before .before .if1 .taken) at (c .before .before .before .before .before .pre) in
+    omega (arith, c .before .before .length-of .ensures)
 
 returns : tie.Need-returns
-unfolding endingRight
-returns c = rw (c .before .before .if1 .taken)
+returns c =
+    let r = c .before .before .before .before .before .args .row in
+    let s = c .before .before .before .before .before .args .s .now in
+    rw (c .before .before .before .if1 .taken, c .before .before .length-of .ensures) (sym (ending-bytes r s (rw (c .before .before .before .if1 .taken) at (c .before .before .before .before .before .pre))))
 
 returns-2 : tie.Need-returns-2
-unfolding endingRight
-returns-2 c = rw (ne-eqb (c .before .args .termination) 1 (c .if1 .left))
+returns-2 c = rw (c .if1 .left) (sym (ending-none (c .before .before .args .row) (c .before .before .args .s .now) (rw (c .if1 .left) at (c .before .before .pre))))
 
 pub ending-right-spec : {M : Type 1} → statement M
 ending-right-spec =
     tie.close
-    (tie.spec shared-slice-read-result add-result shared-slice-read-result-2 returns returns-2)
+    (tie.spec
+    length-of-requires
+    shared-slice-read-result
+    add-result
+    shared-slice-read-result-2
+    returns
+    returns-2)

@@ -1,68 +1,58 @@
+use native.Mathlib.Omega.{arith}
 use mir.Syntax.{w32}
 use Rattle.integers.proofs.Signed.{kept}
 use mathlib.Core.Path.{refl}
-use native.Mathlib.Omega.{arith}
-use lib.ListN.{length}
 use Rattle.setup.specs.Layout.{gyroTemperatures, accelerometerTemperatures, inclinometerTemperatures, aux}
-use Rattle.wire.specs.Fields.{fieldsOf}
-use Rattle.wire.proofs.FieldPlaces.{place-whole, fields-placed, byte-placed}
+use Rattle.wire.specs.Fields.{contentsOf}
+use Rattle.wire.proofs.RowPlaces.{place-low}
+use Rattle.wire.proofs.FieldPlaces.{fields-placed, byte-placed}
 use borrow.Author.Needs.{needs}
 use Rattle.wire.proofs.fields_of.Statement.{statement}
 use Rattle.wire.proofs.fields_of.Tie as tie
 
-layout-within-requires : tie.Need-layout-within-requires
-layout-within-requires c κs = search needs
-
 temperature-places-requires : tie.Need-temperature-places-requires
 temperature-places-requires c κs = search needs
+
+aux-place-requires : tie.Need-aux-place-requires
+aux-place-requires c κs = search needs
 
 statuses-requires : tie.Need-statuses-requires
 statuses-requires c κs = search needs
 
-array-read-temperatures-at : tie.Need-array-read-temperatures-at
-array-read-temperatures-at c = search needs
+array-read-axes-at : tie.Need-array-read-axes-at
+array-read-axes-at c = search needs
 
-temperatures-at-requires : tie.Need-temperatures-at-requires
-temperatures-at-requires c κs =
-    let i = c .before .before .before .before .args .identifier in
-    let s = c .before .before .before .before .args .s .now in
-    rw (c .before .temperature-places .ensures) (place-whole i (length s) gyroTemperatures)
+axes-at-requires : tie.Need-axes-at-requires
+axes-at-requires c κs = rw (c .before .before .temperature-places .ensures) (place-low (c .before .before .before .before .args .row) gyroTemperatures, (omega arith, omega arith))
 
-array-read-temperatures-at-2 : tie.Need-array-read-temperatures-at-2
-array-read-temperatures-at-2 c = search needs
+array-read-axes-at-2 : tie.Need-array-read-axes-at-2
+array-read-axes-at-2 c = search needs
 
-temperatures-at-requires-2 : tie.Need-temperatures-at-requires-2
-temperatures-at-requires-2 c κs =
-    let i = c .before .before .before .before .before .args .identifier in
-    let s = c .before .before .before .before .before .args .s .now in
-    rw (c .before .before .temperature-places .ensures) (place-whole i (length s) accelerometerTemperatures)
+axes-at-requires-2 : tie.Need-axes-at-requires-2
+axes-at-requires-2 c κs = rw (c .before .before .before .temperature-places .ensures) (place-low (c .before .before .before .before .before .args .row) accelerometerTemperatures, (omega arith, omega arith))
 
-array-read-temperatures-at-3 : tie.Need-array-read-temperatures-at-3
-array-read-temperatures-at-3 c = search needs
+array-read-axes-at-3 : tie.Need-array-read-axes-at-3
+array-read-axes-at-3 c = search needs
 
-temperatures-at-requires-3 : tie.Need-temperatures-at-requires-3
-temperatures-at-requires-3 c κs =
-    let i = c .before .before .before .before .before .before .args .identifier in
-    let s = c .before .before .before .before .before .before .args .s .now in
-    rw (c .before .before .before .temperature-places .ensures) (place-whole i (length s) inclinometerTemperatures)
+axes-at-requires-3 : tie.Need-axes-at-requires-3
+axes-at-requires-3 c κs = rw (c .before .before .before .before .temperature-places .ensures) (place-low (c .before .before .before .before .before .before .args .row) inclinometerTemperatures, (omega arith, omega arith))
+
+sub-bytes-at : tie.Need-sub-bytes-at
+sub-bytes-at c = search needs
 
 bytes-at-requires : tie.Need-bytes-at-requires
 bytes-at-requires c κs =
-    let i = c .before .before .before .before .before .before .before .args .identifier in
-    let s = c .before .before .before .before .before .before .before .args .s .now in
-    rw (c .before .before .before .before .temperature-places .ensures) (place-whole i (length s) gyroTemperatures, (place-whole i (length s) accelerometerTemperatures, place-whole i (length s) inclinometerTemperatures))
+    let r = c .before .before .before .before .before .before .before .args .row in
+    rw (c .before .before .before .before .before .temperature-places .ensures) ((place-low r gyroTemperatures, place-low r accelerometerTemperatures, place-low r inclinometerTemperatures), omega arith)
 
 aux-at-requires : tie.Need-aux-at-requires
-aux-at-requires c κs =
-    let i = c .before .before .before .before .before .before .before .before .args .identifier in
-    let s = c .before .before .before .before .before .before .before .before .args .s .now in
-    rw (c .before .before .before .before .before .before .layout-within .ensures) (place-whole i (length s) aux)
+aux-at-requires c κs = rw (c .before .before .before .before .before .aux-place .ensures) (place-low (c .before .before .before .before .before .before .before .before .args .row) aux)
+
+sub-byte-at : tie.Need-sub-byte-at
+sub-byte-at c = search needs
 
 byte-at-requires : tie.Need-byte-at-requires
-byte-at-requires c κs =
-    let i = c .before .before .before .before .before .before .before .before .before .args .identifier in
-    let s = c .before .before .before .before .before .before .before .before .before .args .s .now in
-    rw (c .before .before .before .before .before .before .before .layout-within .ensures) (place-whole i (length s) aux)
+byte-at-requires c κs = rw (c .before .before .before .before .before .before .aux-place .ensures) (place-low (c .before .before .before .before .before .before .before .before .before .args .row) aux, omega arith)
 
 counter-requires : tie.Need-counter-requires
 counter-requires c κs = search needs
@@ -71,49 +61,51 @@ latency-requires : tie.Need-latency-requires
 latency-requires c κs = search needs
 
 returns : tie.Need-returns
-unfolding fieldsOf
+unfolding contentsOf
 returns c =
-    let i = c .before .before .before .before .before .before .before .before .before .before .before .before .args .identifier in
+    let r = c .before .before .before .before .before .before .before .before .before .before .before .before .args .row in
     let s = c .before .before .before .before .before .before .before .before .before .before .before .before .args .s .now in
     rw (
       c .before .before .before .before .before .before .before .before .statuses .ensures,
-      byte-placed i s gyroTemperatures 3 refl (omega arith) refl,
-      byte-placed i s accelerometerTemperatures 3 refl (omega arith) refl,
-      byte-placed i s inclinometerTemperatures 3 refl (omega arith) refl,
-      byte-placed i s aux 1 refl (omega arith) refl,
-      fields-placed i s gyroTemperatures refl,
-      fields-placed i s accelerometerTemperatures refl,
-      fields-placed i s inclinometerTemperatures refl,
-      fields-placed i s aux refl,
+      byte-placed r s gyroTemperatures 3 refl (omega arith) refl,
+      byte-placed r s accelerometerTemperatures 3 refl (omega arith) refl,
+      byte-placed r s inclinometerTemperatures 3 refl (omega arith) refl,
+      byte-placed r s aux 1 refl (omega arith) refl,
+      fields-placed r s gyroTemperatures refl,
+      fields-placed r s accelerometerTemperatures refl,
+      fields-placed r s inclinometerTemperatures refl,
+      fields-placed r s aux refl,
     )
     (rw (
-      c .before .before .before .before .before .before .before .temperatures-at .ensures,
-      c .before .before .before .before .before .before .temperatures-at2 .ensures,
-      c .before .before .before .before .before .temperatures-at3 .ensures,
+      c .before .before .before .before .before .before .before .axes-at .ensures,
+      c .before .before .before .before .before .before .axes-at2 .ensures,
+      c .before .before .before .before .before .axes-at3 .ensures,
       c .before .before .before .before .bytes-at .ensures,
       kept w32 (c .before .before .before .aux-at .ok) (c .before .before .before .aux-at .ensures),
       c .before .before .byte-at .ensures,
       c .before .counter .ensures,
       c .latency .ensures,
-      c .before .before .before .before .before .before .before .before .before .temperature-places .ensures,
-      c .before .before .before .before .before .before .before .before .before .before .layout-within .ensures,
+      c .before .before .before .before .before .before .before .before .before .before .temperature-places .ensures,
+      c .before .before .before .before .before .before .before .before .before .aux-place .ensures,
     ))
 
 pub fields-of-spec : {M : Type 1} → statement M
 fields-of-spec =
     tie.close
     (tie.spec
-    layout-within-requires
     temperature-places-requires
+    aux-place-requires
     statuses-requires
-    array-read-temperatures-at
-    temperatures-at-requires
-    array-read-temperatures-at-2
-    temperatures-at-requires-2
-    array-read-temperatures-at-3
-    temperatures-at-requires-3
+    array-read-axes-at
+    axes-at-requires
+    array-read-axes-at-2
+    axes-at-requires-2
+    array-read-axes-at-3
+    axes-at-requires-3
+    sub-bytes-at
     bytes-at-requires
     aux-at-requires
+    sub-byte-at
     byte-at-requires
     counter-requires
     latency-requires

@@ -1,43 +1,57 @@
 use mathlib.Core.Path.{sym, ap, _∙_}
-use native.Mathlib.Omega.{arith}
-use borrow.Author.Tests.{lt-ltb}
 use Rattle.integers.specs.Bytes.{bigEndian}
-use Rattle.integers.proofs.Bytes.{two-at}
-use Rattle.wire.specs.Places.{fieldsAt}
+use Rattle.wire.proofs.FieldPlaces.{two-bytes}
 use borrow.Author.Needs.{needs}
 use Rattle.wire.proofs.latency_at.Statement.{statement}
 use Rattle.wire.proofs.latency_at.Tie as tie
 
-returns : tie.Need-returns
-unfolding fieldsAt bigEndian
-returns c = rw (c .if1 .taken)
+add-if1 : tie.Need-add-if1
+add-if1 c = search needs
 
 shared-slice-read-unsigned-of : tie.Need-shared-slice-read-unsigned-of
-shared-slice-read-unsigned-of c = let h = c .before .before .before .pre (omega arith) in omega arith
+shared-slice-read-unsigned-of c = search needs
 
 add-unsigned-of : tie.Need-add-unsigned-of
-add-unsigned-of c = let h = c .before .before .before .pre (omega arith) in omega arith
+add-unsigned-of c = search needs
 
 shared-slice-read-unsigned-of-2 : tie.Need-shared-slice-read-unsigned-of-2
-shared-slice-read-unsigned-of-2 c = let h = c .before .before .before .before .pre (omega arith) in omega arith
+shared-slice-read-unsigned-of-2 c = search needs
 
 unsigned-of-requires : tie.Need-unsigned-of-requires
 unsigned-of-requires c κs = search needs
 
+byte-or-zero-requires : tie.Need-byte-or-zero-requires
+byte-or-zero-requires c κs = search needs
+
+add-byte-or-zero : tie.Need-add-byte-or-zero
+add-byte-or-zero c = search needs
+
+byte-or-zero-requires-2 : tie.Need-byte-or-zero-requires-2
+byte-or-zero-requires-2 c κs = search needs
+
+unsigned-of-requires-2 : tie.Need-unsigned-of-requires-2
+unsigned-of-requires-2 c κs = search needs
+
+returns : tie.Need-returns
+returns c = c .unsigned-of .ensures ∙ ap bigEndian (sym (two-bytes (c .before .before .before .before .before .args .at) (c .before .before .before .before .before .args .s .now)))
+
 returns-2 : tie.Need-returns-2
-unfolding fieldsAt
 returns-2 c =
-    let s = c .before .before .before .before .before .args .s .now in
-    let place = c .before .before .before .before .before .args .place in
-    rw (lt-ltb 0 place (omega arith)) (c .unsigned-of .ensures ∙ ap bigEndian (sym (two-at s place (c .before .before .before .before .before .pre (omega arith)))))
+    let value = rw (c .before .before .byte-or-zero .ensures, c .before .byte-or-zero2 .ensures) at (c .unsigned-of2 .ensures) in
+    value ∙ ap bigEndian (sym (two-bytes (c .before .before .before .before .before .args .at) (c .before .before .before .before .before .args .s .now)))
 
 pub latency-at-spec : {M : Type 1} → statement M
 latency-at-spec =
     tie.close
     (tie.spec
-    returns
+    add-if1
     shared-slice-read-unsigned-of
     add-unsigned-of
     shared-slice-read-unsigned-of-2
     unsigned-of-requires
+    byte-or-zero-requires
+    add-byte-or-zero
+    byte-or-zero-requires-2
+    unsigned-of-requires-2
+    returns
     returns-2)

@@ -1,8 +1,9 @@
+use native.Mathlib.Omega.{arith}
 use mathlib.Core.Path.{refl}
-use lib.ListN.{length}
 use Rattle.setup.specs.Layout.{gyro, accelerometer, inclinometer}
-use Rattle.wire.specs.Fields.{fieldsOf}
-use Rattle.wire.proofs.FieldPlaces.{place-whole, fields-placed}
+use Rattle.wire.specs.Fields.{contentsOf}
+use Rattle.wire.proofs.RowPlaces.{place-low}
+use Rattle.wire.proofs.FieldPlaces.{fields-placed}
 use borrow.Author.Needs.{needs}
 use Rattle.wire.proofs.readings.Statement.{statement}
 use Rattle.wire.proofs.readings.Tie as tie
@@ -10,45 +11,36 @@ use Rattle.wire.proofs.readings.Tie as tie
 group-places-requires : tie.Need-group-places-requires
 group-places-requires c κs = search needs
 
-array-read-group-at : tie.Need-array-read-group-at
-array-read-group-at c = search needs
+array-read-axes-at : tie.Need-array-read-axes-at
+array-read-axes-at c = search needs
 
-group-at-requires : tie.Need-group-at-requires
-group-at-requires c κs =
-    let i = c .before .before .args .identifier in
-    let s = c .before .before .args .s .now in
-    rw (c .group-places .ensures) (place-whole i (length s) gyro)
+axes-at-requires : tie.Need-axes-at-requires
+axes-at-requires c κs = rw (c .group-places .ensures) (place-low (c .before .before .args .row) gyro, (omega arith, omega arith))
 
-array-read-group-at-2 : tie.Need-array-read-group-at-2
-array-read-group-at-2 c = search needs
+array-read-axes-at-2 : tie.Need-array-read-axes-at-2
+array-read-axes-at-2 c = search needs
 
-group-at-requires-2 : tie.Need-group-at-requires-2
-group-at-requires-2 c κs =
-    let i = c .before .before .before .args .identifier in
-    let s = c .before .before .before .args .s .now in
-    rw (c .before .group-places .ensures) (place-whole i (length s) accelerometer)
+axes-at-requires-2 : tie.Need-axes-at-requires-2
+axes-at-requires-2 c κs = rw (c .before .group-places .ensures) (place-low (c .before .before .before .args .row) accelerometer, (omega arith, omega arith))
 
-array-read-group-at-3 : tie.Need-array-read-group-at-3
-array-read-group-at-3 c = search needs
+array-read-axes-at-3 : tie.Need-array-read-axes-at-3
+array-read-axes-at-3 c = search needs
 
-group-at-requires-3 : tie.Need-group-at-requires-3
-group-at-requires-3 c κs =
-    let i = c .before .before .before .before .args .identifier in
-    let s = c .before .before .before .before .args .s .now in
-    rw (c .before .before .group-places .ensures) (place-whole i (length s) inclinometer)
+axes-at-requires-3 : tie.Need-axes-at-requires-3
+axes-at-requires-3 c κs = rw (c .before .before .group-places .ensures) (place-low (c .before .before .before .before .args .row) inclinometer, (omega arith, omega arith))
 
 returns : tie.Need-returns
-unfolding fieldsOf
+unfolding contentsOf
 returns c =
-    let i = c .before .before .before .before .before .args .identifier in
+    let r = c .before .before .before .before .before .args .row in
     let s = c .before .before .before .before .before .args .s .now in
     rw (
-      fields-placed i s gyro refl,
-      fields-placed i s accelerometer refl,
-      fields-placed i s inclinometer refl,
-      c .before .before .group-at .ensures,
-      c .before .group-at2 .ensures,
-      c .group-at3 .ensures,
+      fields-placed r s gyro refl,
+      fields-placed r s accelerometer refl,
+      fields-placed r s inclinometer refl,
+      c .before .before .axes-at .ensures,
+      c .before .axes-at2 .ensures,
+      c .axes-at3 .ensures,
       c .before .before .before .group-places .ensures,
     )
 
@@ -57,10 +49,10 @@ readings-spec =
     tie.close
     (tie.spec
     group-places-requires
-    array-read-group-at
-    group-at-requires
-    array-read-group-at-2
-    group-at-requires-2
-    array-read-group-at-3
-    group-at-requires-3
+    array-read-axes-at
+    axes-at-requires
+    array-read-axes-at-2
+    axes-at-requires-2
+    array-read-axes-at-3
+    axes-at-requires-3
     returns)

@@ -1,0 +1,114 @@
+-- Laws of bytes in a buffer: parts of a list as a slice gives them, zeros behind bytes, and bytes written behind others. Assumes nothing.
+use Prim.Native.Nat.{ℕ, zero, suc, _+_, _-_, _≤_, _<_, min}
+use mathlib.Core.Path.{_≡_, refl, sym, ap, _∙_}
+use mathlib.Core.List.{List, [], _∷_, _++_, append-assoc, append-nil}
+use native.Mathlib.Nat.{add-zero, zero-add, add-suc, suc-add}
+use native.Mathlib.Numerals.{add-one}
+use native.Mathlib.Decide.{decLe}
+use native.Mathlib.Omega.{arith}
+use borrow.Rule.Slice.PartMut.{midOf, putMid}
+use lib.ListN.{length, take, drop, getD, set, replicate, length-append, length-drop, drop-of-length-le}
+use lib.Seq.{take-all, take-suc, take-at, drop-at, length-take-le, drop-drop, set-append-seam, append-snoc, sets, sets-eq}
+use Rattle.integers.specs.Buffers.{padded}
+
+-- ---- parts
+
+-- a part of a slice to its end
+pub to-end : (p : List ℕ) (i : ℕ) → take (length p - i) (drop i p) ≡ drop i p
+to-end p i = take-all (length p - i) (drop i p) (omega (arith, length-drop i p))
+
+-- a part of n bytes from a place on
+pub part-of : (p : List ℕ) (i n : ℕ) → take (i + n - i) (drop i p) ≡ take n (drop i p)
+part-of p i n =
+    let e : i + n - i ≡ n = omega arith in
+    ap (λ (m : ℕ). take m (drop i p)) e
+
+-- as many bytes as there are, n at most, are the first n
+pub take-least : (n k : ℕ) (l : List ℕ) → k ≡ min (length l) n → take k l ≡ take n l
+take-least n k l e = go (decLe (length l) n)
+  where
+    go : Dec (length l ≤ n) → take k l ≡ take n l
+    go (yes h) = take-all k l (omega arith) ∙ sym (take-all n l h)
+    go (no h) = let m : k ≡ n = omega arith in ap (λ (j : ℕ). take j l) m
+
+-- ---- zeros behind bytes
+
+zero-at : (k j : ℕ) → getD {A = ℕ} (replicate k 0) j 0 ≡ 0
+zero-at zero j = refl
+zero-at (suc k) zero = refl
+zero-at (suc k) (suc j) = zero-at k j
+
+-- bytes with zeros behind them read as the bytes alone, which read as 0 past their end
+pub zeros-behind-at : (s : List ℕ) (k j : ℕ) → getD (s ++ replicate k 0) j 0 ≡ getD s j 0
+zeros-behind-at [] k j = zero-at k j
+zeros-behind-at (x ∷ s) k zero = refl
+zeros-behind-at (x ∷ s) k (suc j) = zeros-behind-at s k j
+
+-- the bytes in front of the zeros
+pub padded-front : (k n : ℕ) (l : List ℕ) → length l ≡ n → take n (padded k l) ≡ l
+padded-front k n l e = take-at l _ n e
+
+-- and the zeros
+pub padded-rest : (n : ℕ) (l : List ℕ) → drop (length l) (padded n l) ≡ replicate (n - length l) 0
+padded-rest n l = drop-at l (replicate (n - length l) 0) (length l) refl
+
+-- one more byte
+padded-snoc : (n : ℕ) (l : List ℕ) (x : ℕ) → length l < n → set (padded n l) (length l) x ≡ padded n (l ++ (x ∷ []))
+padded-snoc n l x h = go (n - length l) refl
+  where
+    go : (m : ℕ) → n - length l ≡ m → set (padded n l) (length l) x ≡ padded n (l ++ (x ∷ []))
+    go zero e = absurd (omega arith)
+    go (suc m) e =
+        let k : n - length (l ++ (x ∷ [])) ≡ m = omega (arith, length-append l (x ∷ [])) in
+        rw (e, k) (set-append-seam l 0 (replicate m 0) x ∙ sym (append-snoc l x (replicate m 0)))
+
+-- the next byte of p
+pub padded-more :
+    (n : ℕ) (p : List ℕ) (i : ℕ) → i < length p → i < n → set (padded n (take i p)) i (getD p i 0) ≡ padded n (take (i + 1) p)
+padded-more n p i h g =
+    let l : length (take i p) ≡ i = length-take-le i p (omega arith) in
+    ap (λ (k : ℕ). set (padded n (take i p)) k (getD p i 0)) (sym l)
+    ∙ padded-snoc n (take i p) (getD p i 0) (omega arith)
+    ∙ ap (padded n) (sym (take-suc p i 0 h) ∙ ap (λ (m : ℕ). take m p) (sym (add-one i)))
+
+-- bytes written behind l, one after the other
+pub padded-sets : (n : ℕ) (l p : List ℕ) (k : ℕ) → k ≡ length l → length l + length p ≤ n → sets (padded n l) k p ≡ padded n (l ++ p)
+padded-sets n l [] k e h = ap (padded n) (sym (append-nil l))
+padded-sets n l (x ∷ p) k e h =
+    ap (λ (b : List ℕ). sets b (suc k) p) (ap (λ (m : ℕ). set (padded n l) m x) e ∙ padded-snoc n l x (omega arith))
+    ∙ padded-sets n (l ++ (x ∷ [])) p (suc k) (omega (arith, length-append l (x ∷ []))) (omega (arith, length-append l (x ∷ [])))
+    ∙ ap (padded n) (append-assoc l (x ∷ []) p)
+
+-- ---- bytes written behind others
+
+pub sets-append : (b : List ℕ) (i : ℕ) (xs ys : List ℕ) → sets b i (xs ++ ys) ≡ sets (sets b i xs) (i + length xs) ys
+sets-append b i [] ys = ap (λ (k : ℕ). sets b k ys) (sym (add-zero i))
+sets-append b i (x ∷ xs) ys =
+    sets-append (set b i x) (suc i) xs ys
+    ∙ ap (λ (k : ℕ). sets (sets (set b i x) (suc i) xs) k ys) (suc-add i (length xs) ∙ sym (add-suc i (length xs)))
+
+-- the next byte of p, behind those before it
+pub sets-more :
+    (b : List ℕ) (i : ℕ) (p : List ℕ) (j : ℕ) → j < length p → set (sets b i (take j p)) (i + j) (getD p j 0) ≡ sets b i (take (j + 1) p)
+sets-more b i p j h =
+    let l : length (take j p) ≡ j = length-take-le j p (omega arith) in
+    ap (λ (k : ℕ). set (sets b i (take j p)) (i + k) (getD p j 0)) (sym l)
+    ∙ sym (sets-append b i (take j p) (getD p j 0 ∷ []))
+    ∙ ap (sets b i) (sym (take-suc p j 0 h) ∙ ap (λ (m : ℕ). take m p) (sym (add-one j)))
+
+-- a text at the front of a buffer
+pub put-front : (b text : List ℕ) → length text ≤ length b → sets b 0 text ≡ text ++ drop (length text) b
+put-front b text h = sets-eq text b 0 (omega arith) ∙ rw (zero-add (length text))
+
+-- and at the front of the part from a place on
+pub put-part :
+    (b text : List ℕ) (a : ℕ) → a + length text ≤ length b
+    → putMid a (length b - a) b (text ++ drop (length text) (midOf a (length b - a) b)) ≡ sets b a text
+put-part b text a h =
+    let none : drop (length b - a) (drop a b) ≡ [] = drop-of-length-le (drop a b) {i = length b - a} (omega (arith, length-drop a b)) in
+    ap (λ (l : List ℕ). take a b ++ ((text ++ drop (length text) l) ++ drop (length b - a) (drop a b))) (to-end b a)
+    ∙ ap (λ (l : List ℕ). take a b ++ ((text ++ drop (length text) (drop a b)) ++ l)) none
+    ∙ ap (λ (l : List ℕ). take a b ++ l) (append-nil (text ++ drop (length text) (drop a b)))
+    ∙ ap (λ (l : List ℕ). take a b ++ (text ++ l)) (drop-drop (length text) a b)
+    ∙ sym (append-assoc (take a b) text (drop (a + length text) b))
+    ∙ sym (sets-eq text b a h)

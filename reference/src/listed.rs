@@ -1,0 +1,403 @@
+//! Listed calls: the cases of `cases.txt`, written by hand from 01, and of
+//! `line_cases.txt`, written by tools/cases.pl, with what each must answer; and
+//! whole pieces at their edges.
+
+use crate::call::{feed_text, line_text, opened_text, read_text, setup_text, Call};
+use crate::datagram::{encode, Datagram, Fields, Gap};
+use crate::layout::datagram_length;
+use crate::line::Line;
+use crate::session::{feed, Answer, Axis, Outcome, Session};
+use crate::setup::Setup;
+use crate::whole_piece::ROOM_FOR_LINES;
+use crate::{Refusal, LOWEST_READING, PIECE_LIMIT, STREAM_LIMIT};
+
+/// A line for each case; the head of the file says how they are written.
+const CASES: &str = include_str!("cases.txt");
+
+/// `write NUMBER SETUP ORDINAL COUNTER LATENCY MISSED READINGS STATUSES TOTALS
+/// ROOM TEXT`: the number that refuses a text line in a buffer of ROOM bytes, or
+/// 0 and the line without its end. A total is 1 or 0, for begun or not, and its
+/// value.
+const LINE_CASES: &str = include_str!("line_cases.txt");
+
+/// The calls of the cases, each with what its answer must contain: all of it, or
+/// one line of two for a setup line.
+pub fn cases() -> Vec<(Call, String)> {
+    CASES
+        .lines()
+        .chain(LINE_CASES.lines())
+        .filter(|line| !line.starts_with('#'))
+        .flat_map(calls_of_case)
+        .collect()
+}
+
+fn calls_of_case(case: &str) -> Vec<(Call, String)> {
+    let words: Vec<&str> = case.split(' ').collect();
+    // What stands behind so many words, spaces and all.
+    let behind = |count: usize| case.splitn(count + 1, ' ').last().unwrap_or("");
+    match words[0] {
+        "line" => vec![line_case(behind(2).into(), number(words[1]))],
+        "bytes" => vec![line_case(bytes_of(words[2]), number(words[1]))],
+        "reads" => {
+            let expected = setup_text(&setup_of(&words[1..10]));
+            vec![(Call::SetupLine(behind(10).into()), expected)]
+        }
+        "setup" => vec![setup_case(setup_of(&words[2..11]), number(words[1]))],
+        "open" => open_case(&words),
+        "piece" => vec![piece_case(&words)],
+        "write" => vec![write_case(&words, behind(46))],
+        other => panic!("there is no case of the kind {other}"),
+    }
+}
+
+/// A setup line that a number refuses; 0 if it is accepted.
+fn line_case(line: Vec<u8>, refusal: Refusal) -> (Call, String) {
+    let expected = match refusal {
+        0 => "read accepted\n".to_string(),
+        _ => read_text(&Err(refusal)),
+    };
+    (Call::SetupLine(line), expected)
+}
+
+fn setup_case(setup: Setup, refusal: Refusal) -> (Call, String) {
+    let expected = match refusal {
+        0 => opened_text(&Ok(()), &Ok(fresh(setup))),
+        _ => opened_text(&Err(refusal), &Err(refusal)),
+    };
+    (Call::Setup(setup), expected)
+}
+
+fn open_case(words: &[&str]) -> Vec<(Call, String)> {
+    let setup = setup_of(&words[4..13]);
+    let opened = match number(words[1]) {
+        0 => fresh(setup),
+        _ => Session::ZEROS,
+    };
+    let length: u64 = number(words[3]);
+    let after = Session {
+        passed_over: length,
+        bytes_fed: length,
+        ..opened
+    };
+    vec![
+        setup_case(setup, number(words[1])),
+        feed_case(opened, vec![0; length as usize], number(words[2]), after),
+    ]
+}
+
+fn piece_case(words: &[&str]) -> (Call, String) {
+    let count = hexadecimal(words[14]);
+    let mut session = Session {
+        held: equal_bytes(count, number(words[15])),
+        held_count: count,
+        datagrams: hexadecimal(words[18]),
+        passed_over: hexadecimal(words[19]),
+        bytes_fed: hexadecimal(words[20]),
+        previous_counter: number(words[21]),
+        ..fresh(setup_of(&words[5..14]))
+    };
+    session.held[number::<usize>(words[16])] = number(words[17]);
+    let axis: usize = number(words[22]);
+    session.axes[axis / 3][axis % 3] = Axis {
+        begun: words[23] == "1",
+        last_fit_reading: number(words[24]),
+        total: number(words[25]),
+    };
+    let count_after = hexadecimal(words[2]);
+    let after = Session {
+        held: equal_bytes(count_after, session.setup.identifier as u8),
+        held_count: count_after,
+        passed_over: hexadecimal(words[3]),
+        bytes_fed: hexadecimal(words[4]),
+        ..session
+    };
+    let piece = vec![number(words[27]); number(words[26])];
+    feed_case(session, piece, number(words[1]), after)
+}
+
+/// A piece that a number refuses, or (0) that is taken whole and leaves a
+/// session. No datagram is handed out.
+fn feed_case(session: Session, piece: Vec<u8>, refusal: Refusal, after: Session) -> (Call, String) {
+    let (outcome, taken, session_after) = match refusal {
+        0 => (Outcome::Waiting, piece.len(), after),
+        _ => (Outcome::Refused(refusal), 0, session),
+    };
+    let expected = feed_text(&Answer {
+        outcome,
+        taken,
+        session: session_after,
+        datagram: Datagram::ZEROS,
+    });
+    (Call::Feed(Box::new(session), piece), expected)
+}
+
+fn write_case(words: &[&str], text: &str) -> (Call, String) {
+    let begun: [[u8; 3]; 3] = by_axis(&words[27..], 2);
+    let line = Line {
+        setup: setup_of(&words[2..11]),
+        ordinal: number(words[11]),
+        counter: number(words[12]),
+        latency: number(words[13]),
+        gap: match words[14] {
+            "?" => Gap::OffStep,
+            missed => Gap::Missed(number(missed)),
+        },
+        readings: by_axis(&words[15..], 1),
+        statuses: [number(words[24]), number(words[25]), number(words[26])],
+        totals: by_axis(&words[28..], 2),
+        begun: begun.map(|group| group.map(|mark| mark == 1)),
+    };
+    let mut buffer = vec![0xEE; number(words[45])];
+    let answer = match number(words[1]) {
+        0 => {
+            let written = format!("{text}\n");
+            buffer[..written.len()].copy_from_slice(written.as_bytes());
+            Ok(written.len())
+        }
+        refusal => Err(refusal),
+    };
+    let expected = line_text(&answer, &buffer);
+    (Call::Line(Box::new(line), buffer.len(), 0xEE), expected)
+}
+
+/// Nine numbers, so many words apart.
+fn by_axis<T: std::str::FromStr>(words: &[&str], step: usize) -> [[T; 3]; 3] {
+    std::array::from_fn(|group| {
+        std::array::from_fn(|axis| number(words[step * (3 * group + axis)]))
+    })
+}
+
+/// A session of a setup that holds nothing and was fed nothing.
+fn fresh(setup: Setup) -> Session {
+    Session {
+        setup,
+        ..Session::ZEROS
+    }
+}
+
+/// So many equal bytes, zeros behind them.
+fn equal_bytes<const SIZE: usize>(count: u64, byte: u8) -> [u8; SIZE] {
+    std::array::from_fn(|place| if (place as u64) < count { byte } else { 0 })
+}
+
+fn number<T: std::str::FromStr>(word: &str) -> T {
+    word.parse()
+        .unwrap_or_else(|_| panic!("{word} is no number that fits here"))
+}
+
+fn hexadecimal(word: &str) -> u64 {
+    u64::from_str_radix(word, 16).expect("a hexadecimal number")
+}
+
+fn bytes_of(digits: &str) -> Vec<u8> {
+    let pairs = digits.as_bytes().chunks(2);
+    pairs
+        .map(|pair| hexadecimal(std::str::from_utf8(pair).expect("digits")) as u8)
+        .collect()
+}
+
+fn setup_of(words: &[&str]) -> Setup {
+    let values: Vec<u32> = words.iter().map(|word| number(word)).collect();
+    Setup {
+        rate: values[0],
+        identifier: values[1],
+        termination: values[2],
+        units: [values[3], values[4], values[5]],
+        shifts: [values[6], values[7], values[8]],
+    }
+}
+
+// --------------------------------------------------------------- whole pieces
+
+const EXAMPLE: Setup = Setup {
+    rate: 1000,
+    identifier: 0x90,
+    termination: 0,
+    units: [3, 0, 0],
+    shifts: [21, 0, 0],
+};
+
+/// Everything carried, everything integrated, the longest datagrams.
+const WIDEST: Setup = Setup {
+    rate: 2000,
+    identifier: 0xAF,
+    termination: 1,
+    units: [3; 3],
+    shifts: [21, 22, 23],
+};
+
+/// Whole pieces: buffers about 72,000 bytes, each refusal and their order,
+/// bytes held before and after, datagrams behind damaged ones and inside them.
+pub fn whole_pieces() -> Vec<Call> {
+    let mut calls = Vec::new();
+    let mut add = |session: &Session, piece: &[u8], room: usize, fill: u8| {
+        calls.push(Call::WholePiece(
+            Box::new(*session),
+            piece.to_vec(),
+            room,
+            fill,
+        ));
+    };
+    let example = fresh(EXAMPLE);
+    let room = ROOM_FOR_LINES;
+    // The paper's two datagrams.
+    let first = turn(&EXAMPLE, 2, 8_388_600);
+    let second = turn(&EXAMPLE, 4, -8_388_600);
+    let two = [first.clone(), second.clone()].concat();
+    for room in [room, room - 1, room + 1, 36_000, 400, 1, 0] {
+        add(&example, &two, room, 0xEE);
+    }
+    // A buffer that is filled with what lines are made of.
+    for fill in [0x00, 0x0A, 0x2C, 0x31, 0xFF] {
+        add(&example, &two, room, fill);
+    }
+    // No bytes, of a fresh session and of one that holds some.
+    let held = feed(&example, &first[..17]).session;
+    add(&example, &[], room, 0xEE);
+    add(&held, &[], room, 0xEE);
+    add(&example, &[], room - 1, 0xEE);
+    // Held bytes that the piece completes, or doesn't, or shows to be none.
+    add(&held, &first[17..], room, 0xEE);
+    add(
+        &held,
+        &[first[17..].to_vec(), two.clone(), first[..5].to_vec()].concat(),
+        room,
+        0xEE,
+    );
+    add(&held, &two, room, 0xEE);
+    let begun = feed(&example, &first[..1]).session;
+    for end in [2, 17, 18, 19, 35, 36] {
+        add(&begun, &two[1..end], room, 0xEE);
+    }
+    // A datagram among other bytes; one that begins inside a damaged one; one
+    // whose first byte is the last of a damaged one.
+    let mut damaged = first.clone();
+    damaged[16] ^= 1;
+    let inside = [
+        &[0x90; 30][..],
+        &first,
+        &[0x00, 0x90, 0x91],
+        &second,
+        &[0x90],
+    ]
+    .concat();
+    add(&example, &inside, room, 0xEE);
+    add(&example, &[&damaged[..], &second].concat(), room, 0xEE);
+    add(&example, &[&first[..9], &second[..]].concat(), room, 0xEE);
+    add(
+        &example,
+        &[&first[..], &damaged, &second, &damaged[..17]].concat(),
+        room,
+        0xEE,
+    );
+    // Gaps, also from the counter of a session that was fed before: 0, some,
+    // off step, external trigger; unfit before and after the first fit one.
+    let counters = [10, 12, 12, 20, 23, 21, 255, 1];
+    let gaps: Vec<u8> = counters
+        .iter()
+        .flat_map(|&counter| turn(&EXAMPLE, counter, 5))
+        .collect();
+    add(&example, &gaps, room, 0xEE);
+    let went_on = Session {
+        datagrams: 1,
+        bytes_fed: 18,
+        previous_counter: 254,
+        ..example
+    };
+    add(&went_on, &gaps, room, 0xEE);
+    let triggered = Setup { rate: 0, ..EXAMPLE };
+    add(&fresh(triggered), &gaps, room, 0xEE);
+    let statuses = [0x40, 0x80, 0x08, 0x09, 0x12, 0x1C, 0x27, 0x00];
+    let unfit: Vec<u8> = statuses
+        .iter()
+        .enumerate()
+        .flat_map(|(place, &status)| {
+            let mut fields = turned(2 * place as u8, 1000 * place as i32);
+            fields.statuses = [status; 3];
+            encode(&EXAMPLE, &fields)
+        })
+        .collect();
+    add(&example, &unfit, room, 0xEE);
+    // The widest lines, from the highest ordinals on.
+    let length = datagram_length(&WIDEST).expect("a good setup") as u64;
+    let mut far = Session {
+        datagrams: STREAM_LIMIT / length - 70,
+        previous_counter: 255,
+        ..fresh(WIDEST)
+    };
+    far.bytes_fed = length * far.datagrams;
+    let most = (far.datagrams as i64) << 23;
+    far.axes = [[Axis {
+        begun: true,
+        last_fit_reading: 0,
+        total: -most,
+    }; 3]; 3];
+    let wide: Vec<u8> = (0..63)
+        .flat_map(|place| {
+            let mut fields = Fields::ZEROS;
+            fields.readings = [[if place % 2 == 0 { LOWEST_READING } else { 0 }; 3]; 3];
+            fields.statuses = [0x27; 3];
+            fields.counter = 200_u8.wrapping_add(2 * place);
+            fields.latency = 65_535;
+            encode(&WIDEST, &fields)
+        })
+        .collect();
+    add(&far, &wide, room, 0xEE);
+    // As many datagrams as 4,096 bytes and the held ones complete.
+    let many: Vec<u8> = (0..=228_u8)
+        .flat_map(|place| turn(&EXAMPLE, place.wrapping_mul(2), 7))
+        .collect();
+    add(&held, &many[17..17 + PIECE_LIMIT], room, 0xEE);
+    // 10, whatever else is wrong; 11, 12 and 14 in this order.
+    let long = vec![0; PIECE_LIMIT + 1];
+    let full = passed_over(&example, STREAM_LIMIT);
+    let wrong = passed_over(&example, STREAM_LIMIT + 1);
+    for (session, piece, room) in [
+        (&Session::ZEROS, &two[..], room),
+        (&Session::ZEROS, &long[..], room - 1),
+        (&wrong, &[][..], room),
+        (&wrong, &long[..], 0),
+        (&example, &long[..], room),
+        (&full, &long[..], room - 1),
+        (&example, &long[..PIECE_LIMIT], room),
+        (&full, &two[..1], room),
+        (&full, &two[..1], room - 1),
+        (&full, &[][..], room),
+        (&full, &[][..], room - 1),
+        (&passed_over(&example, STREAM_LIMIT - 36), &two[..], room),
+        (&passed_over(&example, STREAM_LIMIT - 35), &two[..], room),
+        (&passed_over(&example, STREAM_LIMIT - 35), &two[..], 0),
+    ] {
+        add(session, piece, room, 0xEE);
+    }
+    // Held bytes that aren't zero beyond their count, and an axis that has not
+    // begun and isn't zero.
+    let mut unclean = held;
+    unclean.held[17] = 1;
+    add(&unclean, &first[17..], room, 0xEE);
+    let mut unbegun = example;
+    unbegun.axes[0][0].last_fit_reading = 1;
+    add(&unbegun, &two, room, 0xEE);
+    calls
+}
+
+/// A session that passed over so many bytes.
+fn passed_over(session: &Session, count: u64) -> Session {
+    Session {
+        passed_over: count,
+        bytes_fed: count,
+        ..*session
+    }
+}
+
+/// The fields of a datagram with this counter and this gyro X.
+fn turned(counter: u8, reading: i32) -> Fields {
+    let mut fields = Fields::ZEROS;
+    fields.readings[0][0] = reading;
+    fields.counter = counter;
+    fields
+}
+
+fn turn(setup: &Setup, counter: u8, reading: i32) -> Vec<u8> {
+    encode(setup, &turned(counter, reading))
+}
