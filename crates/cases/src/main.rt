@@ -9,6 +9,10 @@
 use libc::STDIN_FILENO;
 use libc::STDOUT_FILENO;
 use motion::Gap;
+use setup::Described;
+use setup::Listing;
+use setup::Rate;
+use setup::Row;
 use setup::Setup;
 ghost use mathlib.Core.Path.{_≡_};
 ghost use Prim.Native.Nat.{_≤_};
@@ -136,23 +140,31 @@ fn signed_at(given: &[u8], k: usize) -> i64 {
     (decimal_at(given, at) % 9223372036854775808) as i64
 }
 
-// A setup of these, its groups unset.
-fn setup_of(identifier: u8, termination: u16, rate: u16) -> Setup {
-    Setup {
+// What a setup of these says, its groups unset.
+fn described_by(identifier: u8, termination: u16, rate: u16) -> Described {
+    setup::describe(Setup {
         rate: rate,
         identifier: identifier,
         termination: termination,
         units: [0; 3],
         shifts: [0; 3],
-    }
+    })
 }
 
 fn accepts_case(given: &[u8]) -> bool {
-    let setup = setup_of((value_at(given, 2) % 256) as u8, value_at(given, 3), 0);
+    let described = described_by((value_at(given, 2) % 256) as u8, value_at(given, 3), 0);
     let datagram = bytes_at(given, 4);
     let bytes = datagram.bytes;
     let count = datagram.count;
-    wire::is_acceptable(setup, &bytes[0..count]) == (value_at(given, 1) == 1)
+    let expected = value_at(given, 1) == 1;
+    match described {
+        Described::Accepted(sensor) => {
+            let row = sensor.row;
+            let part = &bytes[0..count];
+            wire::is_acceptable(sensor.identifier, row, sensor.terminated, part) == expected
+        }
+        Described::Refused(_) => !expected,
+    }
 }
 
 fn same_reading(reading: i32, given: &[u8], k: usize) -> bool {
@@ -174,22 +186,26 @@ fn same_statuses(given: &[u8], statuses: [u8; 3]) -> bool {
         & (statuses[2] as u16 == value_at(given, 13))
 }
 
-fn same_contents(given: &[u8], identifier: u8, bytes: &[u8]) -> bool {
-    let grid = wire::readings(identifier, bytes);
-    let statuses = wire::statuses(identifier, bytes);
+fn same_contents(given: &[u8], row: Row, bytes: &[u8]) -> bool {
+    let grid = wire::readings(row, bytes);
+    let statuses = wire::statuses(row, bytes);
     same_row(grid[0], given, 2)
         & same_row(grid[1], given, 5)
         & same_row(grid[2], given, 8)
         & same_statuses(given, statuses)
-        & (wire::counter(identifier, bytes) as u16 == value_at(given, 14))
-        & (wire::latency(identifier, bytes) == value_at(given, 15))
+        & (wire::counter(row, bytes) as u16 == value_at(given, 14))
+        & (wire::latency(row, bytes) == value_at(given, 15))
 }
 
 fn decodes_case(given: &[u8]) -> bool {
     let datagram = bytes_at(given, 16);
     let bytes = datagram.bytes;
     let count = datagram.count;
-    same_contents(given, (value_at(given, 1) % 256) as u8, &bytes[0..count])
+    let listing = setup::row_of((value_at(given, 1) % 256) as u8);
+    match listing {
+        Listing::Listed(row) => same_contents(given, row, &bytes[0..count]),
+        Listing::Unlisted => false,
+    }
 }
 
 fn one_if(set: bool, weight: u32) -> u32
@@ -207,11 +223,10 @@ fn fit_case(given: &[u8]) -> bool {
         & (motion::flagged_channels(status) == value_at(given, 3) as u32)
 }
 
-fn gap_case(given: &[u8]) -> bool {
-    let setup = setup_of(0, 0, value_at(given, 1));
+fn same_gap(given: &[u8], rate: Rate) -> bool {
     let previous = (value_at(given, 3) % 256) as u8;
     let counter = (value_at(given, 4) % 256) as u8;
-    let gap = motion::gap_between(setup, value_at(given, 2) == 1, previous, counter);
+    let gap = motion::gap_between(rate, value_at(given, 2) == 1, previous, counter);
     let at = word_start(given, 5);
     if given.len() <= at {
         return false;
@@ -219,6 +234,17 @@ fn gap_case(given: &[u8]) -> bool {
     match gap {
         Gap::Missed(count) => (given[at] != 0x3F) & (count.0 == decimal_at(given, at)),
         Gap::OffStep => given[at] == 0x3F,
+    }
+}
+
+fn gap_case(given: &[u8]) -> bool {
+    let described = described_by(0x90, 0, value_at(given, 1));
+    match described {
+        Described::Accepted(sensor) => {
+            let rate = sensor.rate;
+            same_gap(given, rate)
+        }
+        Described::Refused(_) => false,
     }
 }
 

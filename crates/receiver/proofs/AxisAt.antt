@@ -9,19 +9,25 @@ use native.Mathlib.Omega.{arith}
 use lib.IntN.{natAbs}
 use lib.ListN.{length, take, getD, length-map}
 use lib.Seq.{length-take-le}
+use Rattle.setup.specs.Setup.{rulingOn}
+use Rattle.setup.specs.Sensor.{sensorOf}
 use Rattle.setup.specs.declared.Setup.{Setup}
+use Rattle.setup.specs.declared.Ruling.the-variants.{Accepted}
 use Rattle.wire.specs.Fields.{fieldsOf}
-use Rattle.motion.specs.Totals.{Sighting, keptStep, keeps, axisAt, none, totalOf, totalAt, totalDouble, doubleAt, after}
+use Rattle.motion.specs.Doubles.{shiftIn}
+use Rattle.motion.specs.Totals.{groupsKept, noAxis, noAxes, Sighting, keptStep, keeps, axisAt, none, totalOf, totalAt, totalDouble, doubleAt, after}
 use Rattle.motion.specs.declared.Axis.{Axis}
 use Rattle.motion.proofs.Bounds.{keptAfter, after-next, after-not-kept, after-within, after-bound}
-use Rattle.motion.proofs.NineAxes.{each, step-at, total-at, double-at}
+use Rattle.motion.proofs.NineAxes.{step-at, total-at, double-at}
+use Rattle.setup.proofs.Refusals.{each}
 use Rattle.scan.specs.Carry.{steps, carriedAfter}
 use Rattle.scan.proofs.CarryLaws.{told-at, told-beyond}
-use Rattle.session.specs.History.{noAxis, noAxes, noHistory, awaitsFirst, historyNext}
+use Rattle.session.specs.History.{noHistory, awaitsFirst, historyNext}
 use Rattle.session.specs.declared.History.{History}
 use Rattle.receiver.specs.declared.Datagram.{Datagram}
 use Rattle.receiver.specs.Feed.{datagramWith, historyAfter, tell, consumer, noDatagram}
-use Rattle.receiver.specs.Promises.{answersFor, sighting, sightings, shiftOf}
+use Rattle.receiver.specs.Promises.{answersFor, sighting, sightings}
+use Rattle.receiver.proofs.BySetup.{kept-at, after-datagram}
 
 -- by 01's rule for one axis, up to 2 ^ 30 datagrams
 pub after-ruled :
@@ -51,7 +57,7 @@ module _ (u : Setup) (group axis : ℕ) where
   pub sightings-length : (ds : List (List ℕ)) → length (sightings u group axis ds) ≡ length ds
   sightings-length ds = length-map ds (sighting u group axis)
 
-  module _ (h : group < 3) (k : axis < 3) where
+  module _ (ok : rulingOn u ≡ Accepted) (h : group < 3) (k : axis < 3) where
     no-axis : axisAt noAxes group axis ≡ noAxis
     no-axis =
         each (λ (g : ℕ). axisAt noAxes g axis ≡ noAxis)
@@ -60,17 +66,27 @@ module _ (u : Setup) (group axis : ℕ) where
         (each (λ (m : ℕ). axisAt noAxes 2 m ≡ noAxis) refl refl refl axis k)
         group h
 
+    -- the axis behind a datagram
+    axis-next :
+        (first : Bool) (x : History) (d : List ℕ)
+        → axisAt (historyAfter (sensorOf u) first x d .axes) group axis ≡ keptStep (keeps u group) (axisAt (x .axes) group axis) (sighting u group axis d)
+    unfolding historyNext
+    axis-next first x d =
+        let c = fieldsOf (u .identifier) d in
+        ap (λ (y : History). axisAt (y .axes) group axis) (after-datagram u ok first x d)
+        ∙ step-at (groupsKept u) (x .axes) (c .readings) (c .statuses) group axis h k
+        ∙ ap (λ (b : Bool). keptStep b (axisAt (x .axes) group axis) (sighting u group axis d)) (kept-at u group h)
+
     -- what is kept of the axis after datagrams
     axis-carried :
         (x : History) (ds : List (List ℕ))
         → axisAt (carriedAfter (consumer u) x ds .axes) group axis
         ≡ keptAfter (keeps u group) (axisAt (x .axes) group axis) (sightings u group axis ds)
-    unfolding carriedAfter historyAfter historyNext keptAfter
+    unfolding carriedAfter keptAfter
     axis-carried x [] = refl
     axis-carried x (d ∷ ds) =
         axis-carried (steps (consumer u) x d) ds
-        ∙ ap (λ (a : Axis). keptAfter (keeps u group) a (sightings u group axis ds))
-        (step-at u (x .axes) (fieldsOf (u .identifier) d .readings) (fieldsOf (u .identifier) d .statuses) group axis h k)
+        ∙ ap (λ (a : Axis). keptAfter (keeps u group) a (sightings u group axis ds)) (axis-next (awaitsFirst x) x d)
 
     -- the axis in the answer at a place
     abbrev pub axisThen : List (List ℕ) → ℕ → Axis
@@ -80,12 +96,12 @@ module _ (u : Setup) (group axis : ℕ) where
       before : History
       before = carriedAfter (consumer u) noHistory (take i ds)
 
-      axis-then : axisAt (historyAfter u (awaitsFirst before) before (getD ds i []) .axes) group axis ≡ axisThen ds i
-      unfolding before historyAfter historyNext
+      axis-then : axisAt (historyAfter (sensorOf u) (awaitsFirst before) before (getD ds i []) .axes) group axis ≡ axisThen ds i
+      unfolding before
       axis-then =
           let d = getD ds i [] in
           let s = sightings u group axis ds in
-          step-at u (before .axes) (fieldsOf (u .identifier) d .readings) (fieldsOf (u .identifier) d .statuses) group axis h k
+          axis-next (awaitsFirst before) before d
           ∙ ap (λ (a : Axis). keptStep (keeps u group) a (sighting u group axis d))
           (axis-carried noHistory (take i ds)
           ∙ ap (λ (a : Axis). keptAfter (keeps u group) a (sightings u group axis (take i ds))) no-axis
@@ -97,15 +113,15 @@ module _ (u : Setup) (group axis : ℕ) where
       unfolding tell datagramWith before
       total-then =
           ap (λ (o : Datagram). totalAt (o .totals) group axis) (told-at (consumer u) noHistory ds i noDatagram l)
-          ∙ total-at (historyAfter u (awaitsFirst before) before (getD ds i []) .axes) group axis h k
+          ∙ total-at (historyAfter (sensorOf u) (awaitsFirst before) before (getD ds i []) .axes) group axis h k
           ∙ ap totalOf axis-then
 
-      pub double-then : doubleAt (getD (answersFor u ds) i noDatagram .doubles) group axis ≡ totalDouble (axisThen ds i) (shiftOf u group)
+      pub double-then : doubleAt (getD (answersFor u ds) i noDatagram .doubles) group axis ≡ totalDouble (axisThen ds i) (shiftIn (sensorOf u .shifts) group)
       unfolding tell datagramWith before
       double-then =
           ap (λ (o : Datagram). doubleAt (o .doubles) group axis) (told-at (consumer u) noHistory ds i noDatagram l)
-          ∙ double-at u (historyAfter u (awaitsFirst before) before (getD ds i []) .axes) group axis h k
-          ∙ ap (λ (a : Axis). totalDouble a (shiftOf u group)) axis-then
+          ∙ double-at (sensorOf u .shifts) (historyAfter (sensorOf u) (awaitsFirst before) before (getD ds i []) .axes) group axis h k
+          ∙ ap (λ (a : Axis). totalDouble a (shiftIn (sensorOf u .shifts) group)) axis-then
 
       -- a total grows by at most 2 ^ 23 with a datagram
       pub then-bound : natAbs (axisThen ds i .total) ≤ suc i * 8388608
@@ -136,7 +152,7 @@ module _ (u : Setup) (group axis : ℕ) where
             × (doubleAt (getD (answersFor u ds) i noDatagram .doubles) group axis ≡ doubleAt (getD (answersFor u es) i noDatagram .doubles) group axis)
         go (yes l) = (
           total-then ds i l ∙ ap totalOf same ∙ sym (total-then es i (omega (arith, long))),
-          double-then ds i l ∙ ap (λ (a : Axis). totalDouble a (shiftOf u group)) same ∙ sym (double-then es i (omega (arith, long))),
+          double-then ds i l ∙ ap (λ (a : Axis). totalDouble a (shiftIn (sensorOf u .shifts) group)) same ∙ sym (double-then es i (omega (arith, long))),
         )
         go (no n) =
             let p = told-beyond (consumer u) noHistory ds i noDatagram (omega arith) in

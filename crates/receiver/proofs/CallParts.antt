@@ -12,7 +12,8 @@ use Rattle.setup.specs.Setup.{lengthOf}
 use Rattle.setup.specs.declared.Ruling.{Ruling}
 use Rattle.setup.specs.declared.Ruling.the-variants.{Refused}
 use Rattle.setup.proofs.Refusals.{accepted-length}
-use Rattle.wire.specs.Fields.{fieldsOf, besidesReadings}
+use Rattle.setup.specs.declared.Row.{Row}
+use Rattle.wire.specs.Fields.{contentsOf, besidesReadings}
 use Rattle.motion.specs.Status.{flagged}
 use Rattle.scan.specs.Scan.{First, ends, finds}
 use Rattle.scan.specs.Calls.{State, Fed, feed, refusing}
@@ -26,7 +27,7 @@ use Rattle.session.specs.declared.Session.{Session}
 use Rattle.session.proofs.Soundness.{Facts, sound-facts}
 use Rattle.receiver.specs.Feed.{consumer, stateOf, replyBy, replyOf, refusal, feedBy, feedOf}
 use Rattle.receiver.proofs.Refinement.{count-held, facts-safe}
-use Rattle.receiver.specs.CallParts.{contentsOf, replyAfter, replyAtOnce, Room}
+use Rattle.receiver.specs.CallParts.{contentsWith, replyAfter, replyAtOnce, Room}
 
 -- ---- a datagram as it comes back
 
@@ -41,10 +42,9 @@ flagged-three (a ∷ b ∷ c ∷ d ∷ l) e = absurd (omega arith)
 
 -- the contents of a datagram are its readings and its other fields
 pub contents-read :
-    (identifier : ℕ) (d : List ℕ)
-    → contentsOf (fieldsOf identifier d .readings) (besidesReadings (fieldsOf identifier d)) ≡ fieldsOf identifier d
-unfolding fieldsOf
-contents-read identifier d = refl
+    (row : Row) (d : List ℕ) → contentsWith (contentsOf row d .readings) (besidesReadings (contentsOf row d)) ≡ contentsOf row d
+unfolding contentsOf
+contents-read row d = refl
 
 -- ---- the answer of a call, of what the scan of the bytes held and the piece p finds
 

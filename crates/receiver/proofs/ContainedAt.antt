@@ -11,12 +11,14 @@ use lib.Seq.{length-take-le}
 use Rattle.setup.specs.Setup.{rulingOn}
 use Rattle.setup.specs.declared.Setup.{Setup}
 use Rattle.setup.specs.declared.Ruling.the-variants.{Accepted}
-use Rattle.wire.specs.Fields.{Contents, fieldsOf}
+use Rattle.setup.specs.Sensor.{sensorOf}
+use Rattle.wire.specs.Fields.{Contents, contentsOf, fieldsOf}
+use Rattle.wire.proofs.FieldBytes.{sensor-fields}
 use Rattle.motion.specs.Gaps.{gapAt}
-use Rattle.motion.proofs.AcceptedSetup.{accepted-rate}
 use Rattle.scan.specs.Carry.{steps, tells, carriedAfter}
 use Rattle.scan.proofs.CarryLaws.{told-at}
-use Rattle.receiver.specs.Feed.{datagramWith, historyAfter, tell, consumer, noDatagram}
+use Rattle.receiver.specs.Feed.{datagramWith, historyAfter, consumer, noDatagram}
+use Rattle.receiver.proofs.BySetup.{told-datagram}
 use Rattle.session.specs.History.{noHistory, awaitsFirst, historyNext}
 use Rattle.session.specs.declared.History.{History}
 use Rattle.receiver.specs.Promises.{answersFor, Contained}
@@ -34,7 +36,7 @@ module _ (u : Setup) where
   -- the counter of the last one
   carried-previous :
       (x : History) (ds : List (List ℕ)) (i : ℕ) → i < length ds
-      → carriedAfter (consumer u) x (take (suc i) ds) .previous ≡ fieldsOf (u .identifier) (getD ds i []) .counter
+      → carriedAfter (consumer u) x (take (suc i) ds) .previous ≡ contentsOf (sensorOf u .row) (getD ds i []) .counter
   unfolding carriedAfter historyAfter historyNext
   carried-previous x [] i h = absurd (omega arith)
   carried-previous x (d ∷ ds) zero h = refl
@@ -54,7 +56,10 @@ module _ (u : Setup) where
     abbrev now : Contents
     now = fieldsOf (u .identifier) (getD es i [])
 
-    gap-at : gapAt (u .rate) (eqb i 0) (before .previous) (now .counter) ≡ gapAt (u .rate) (eqb i 0) (fieldsOf (u .identifier) (getD es (i - 1) []) .counter) (now .counter)
+    -- the counter of the one before
+    gap-at :
+        gapAt (u .rate) (eqb i 0) (before .previous) (now .counter)
+        ≡ gapAt (u .rate) (eqb i 0) (fieldsOf (u .identifier) (getD es (i - 1) []) .counter) (now .counter)
     unfolding gapAt
     gap-at = by i l
       where
@@ -64,18 +69,19 @@ module _ (u : Setup) where
             ≡ gapAt (u .rate) (eqb n 0) (fieldsOf (u .identifier) (getD es (n - 1) []) .counter) (now .counter)
         by zero h = refl
         by (suc n) h =
-            ap (λ (k : ℕ). gapAt (u .rate) (eqb (suc n) 0) k (now .counter)) (carried-previous noHistory es n (omega arith))
+            ap (λ (k : ℕ). gapAt (u .rate) (eqb (suc n) 0) k (now .counter))
+            (carried-previous noHistory es n (omega arith) ∙ ap (λ (c : Contents). c .counter) (sym (sensor-fields u (getD es n []) ok)))
             ∙ ap (λ (m : ℕ). gapAt (u .rate) (eqb (suc n) 0) (fieldsOf (u .identifier) (getD es m []) .counter) (now .counter)) (sym (pred-suc n))
 
-    gap-told : tells (consumer u) before (getD es i []) .gap ≡ gapAt (u .rate) (eqb i 0) (fieldsOf (u .identifier) (getD es (i - 1) []) .counter) (now .counter)
-    unfolding tell datagramWith
-    gap-told =
-        ap (λ (r : ℕ). gapAt r (awaitsFirst before) (before .previous) (now .counter)) (accepted-rate u ok)
-        ∙ ap (λ (b : Bool). gapAt (u .rate) b (before .previous) (now .counter)) first-at
-        ∙ gap-at
+    gap-told :
+        gapAt (u .rate) (awaitsFirst before) (before .previous) (now .counter)
+        ≡ gapAt (u .rate) (eqb i 0) (fieldsOf (u .identifier) (getD es (i - 1) []) .counter) (now .counter)
+    gap-told = ap (λ (b : Bool). gapAt (u .rate) b (before .previous) (now .counter)) first-at ∙ gap-at
 
     contained : Contained u es i (tells (consumer u) before (getD es i []))
-    contained = record { readings = unfold tell datagramWith fieldsOf in refl; fields = unfold tell datagramWith in refl; flags = unfold tell datagramWith in refl; gap = gap-told }
+    contained =
+        subst (Contained u es i) (sym (told-datagram u ok (awaitsFirst before) before (getD es i [])))
+        (record { readings = unfold datagramWith fieldsOf in refl; fields = unfold datagramWith in refl; flags = unfold datagramWith in refl; gap = unfold datagramWith in gap-told })
 
     pub contained-at : Contained u es i (getD (answersFor u es) i noDatagram)
     contained-at = subst (Contained u es i) (sym (told-at (consumer u) noHistory es i noDatagram l)) contained

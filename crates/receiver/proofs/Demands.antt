@@ -16,21 +16,19 @@ use Rattle.setup.specs.declared.Setup.{Setup}
 use Rattle.setup.specs.declared.Ruling.the-variants.{Accepted}
 use Rattle.wire.specs.Fields.{fieldsOf}
 use Rattle.wire.proofs.FieldRanges.{fields-fit}
-use Rattle.motion.specs.Doubles.{negative, plusZero, quotient, knownShift, unitOf, doublesIn, valuesAt, valuesFor}
+use Rattle.motion.specs.Doubles.{negative, plusZero, unitOf, doublesIn, shiftIn, groupValues, valuesFor}
 use Rattle.motion.specs.Totals as totals
 use Rattle.motion.specs.Totals.{Sighting, keeps, none, totalOf, totalAt, totalDouble, doubleAt, fitReadings, fitBefore, readingOf}
 use Rattle.motion.specs.declared.Total.{Total}
 use Rattle.motion.specs.declared.Values.{Values}
 use Rattle.motion.proofs.Bounds.{keptAfter}
-use Rattle.motion.proofs.AcceptedSetup.{accepted-unit, accepted-shift}
-use Rattle.motion.proofs.Doubles.{reading-exact, total-exact, values-told}
-use Rattle.motion.proofs.NineAxes.{each, values-at}
+use Rattle.motion.proofs.AcceptedSetup.{accepted-unit, accepted-value, accepted-total}
 use Rattle.motion.proofs.TrueChange.{kept-at-each, carried-at, place-of}
 use Rattle.scan.specs.Scan.{scan}
 use Rattle.scan.specs.Calls as calls
 use Rattle.scan.specs.Calls.{Report, skip}
 use Rattle.scan.specs.Stream.{joined, Among, Bare, NoTen}
-use Rattle.scan.specs.Carry.{Delivered}
+use Rattle.scan.specs.Carry.{carriedAfter, Delivered}
 use Rattle.scan.proofs.AmongLaws.{scan-among, among-scan}
 use Rattle.scan.proofs.CarryLaws.{told-at, length-told, among-each, joined-least}
 use Rattle.scan.proofs.RunLaws.{ready, always-run, always-delivered, run-one, fresh-safe}
@@ -39,16 +37,19 @@ use Rattle.scan.proofs.OneLength.{joined-length, scan-bare}
 use Rattle.search.specs.Search.{isDatagram, limitsOf, rulesOf, verdictOf}
 use Rattle.search.proofs.ByteLists.{datagram-parts}
 use Rattle.search.proofs.Datagrams.{datagram-length, datagram-least, lawful, prompt}
-use Rattle.session.specs.History.{noAxis, noHistory}
+use Rattle.motion.specs.Totals.{noAxis}
+use Rattle.session.specs.History.{noHistory}
 use Rattle.session.specs.declared.History.{History}
 use Rattle.session.specs.Session.{freshOf, opening, isSound, heldBytes}
 use Rattle.session.specs.declared.Session.{Session}
 use Rattle.session.specs.declared.Opened.{Opened}
 use Rattle.receiver.specs.declared.Datagram.{Datagram}
-use Rattle.receiver.specs.Feed.{consumer, SessionState, sessionOf, tell, datagramWith, noDatagram, Calls}
+use Rattle.receiver.specs.Feed.{consumer, SessionState, sessionOf, datagramWith, noDatagram, Calls}
 use Rattle.receiver.specs.OneLength.{OneLength}
 use Rattle.receiver.specs.Promises.{streamOf, FedInTurn, answersFor, sighting, sightings, shiftOf, TotalExact, EveryCall, Contained, Exact, Demand2, Stands, Carry, Demand3}
 use Rattle.session.proofs.Opening.{fresh-sound, opened, refused-opening, zeros-unsound}
+use Rattle.setup.specs.Sensor.{sensorOf}
+use Rattle.receiver.proofs.BySetup.{told-datagram}
 use Rattle.receiver.proofs.Refinement.{SafeOf}
 use Rattle.receiver.proofs.HistoryInvariant.{history-invariant}
 use Rattle.receiver.proofs.Agreement.{Like, StateRun, run-of-states, run-of-sessions}
@@ -132,54 +133,42 @@ module _ (u : Setup) (ok : rulingOn u ≡ Accepted) where
       answer : getD os i noDatagram ≡ getD (answersFor u es) i noDatagram
       answer = ap (λ (l : List Datagram). getD l i noDatagram) (answers es a)
 
-      small : natAbs (axisThen u group axis h k es i .total) ≤ 2 ^ 53
-      small = omega (arith, then-bound u group axis h k es i l, few es a)
+      small : natAbs (axisThen u group axis ok h k es i .total) ≤ 2 ^ 53
+      small = omega (arith, then-bound u group axis ok h k es i l, few es a)
 
-      total-in : totalAt (getD os i noDatagram .totals) group axis ≡ totalOf (axisThen u group axis h k es i)
-      total-in = ap (λ (o : Datagram). totalAt (o .totals) group axis) answer ∙ total-then u group axis h k es i l
+      total-in : totalAt (getD os i noDatagram .totals) group axis ≡ totalOf (axisThen u group axis ok h k es i)
+      total-in = ap (λ (o : Datagram). totalAt (o .totals) group axis) answer ∙ total-then u group axis ok h k es i l
 
-      double-in : doubleAt (getD os i noDatagram .doubles) group axis ≡ totalDouble (axisThen u group axis h k es i) (shiftOf u group)
-      double-in = ap (λ (o : Datagram). doubleAt (o .doubles) group axis) answer ∙ double-then u group axis h k es i l
+      double-in :
+          doubleAt (getD os i noDatagram .doubles) group axis ≡ totalDouble (axisThen u group axis ok h k es i) (shiftIn (sensorOf u .shifts) group)
+      double-in = ap (λ (o : Datagram). doubleAt (o .doubles) group axis) answer ∙ double-then u group axis ok h k es i l
 
       total-value : TotalExact u group axis (getD os i noDatagram)
       total-value =
-          subst (λ (x : Float). HasValue x (negative (totalAt (getD os i noDatagram .totals) group axis .steps)) (natAbs (totalAt (getD os i noDatagram .totals) group axis .steps)) (2 ^ shiftOf u group)) (sym double-in)
-          (subst (λ (z : ℤ). HasValue (totalDouble (axisThen u group axis h k es i) (shiftOf u group)) (negative z) (natAbs z) (2 ^ shiftOf u group))
-          (sym (ap (λ (x : Total). x .steps) total-in))
-          (subst (λ (n : ℕ). HasValue (totalDouble (axisThen u group axis h k es i) (shiftOf u group)) (negative (axisThen u group axis h k es i .total)) (natAbs (axisThen u group axis h k es i .total)) (2 ^ n))
-          (accepted-shift u ok group h)
-          (total-exact (axisThen u group axis h k es i) (shiftOf u group) small)))
+          let x = axisThen u group axis ok h k es i in
+          subst (λ (f : Float). HasValue f (negative (totalAt (getD os i noDatagram .totals) group axis .steps)) (natAbs (totalAt (getD os i noDatagram .totals) group axis .steps)) (2 ^ shiftOf u group)) (sym double-in)
+          (subst (λ (z : ℤ). HasValue (totalDouble x (shiftIn (sensorOf u .shifts) group)) (negative z) (natAbs z) (2 ^ shiftOf u group))
+          (sym (ap (λ (y : Total). y .steps) total-in))
+          (accepted-total u ok x group h small))
 
       abbrev d : List ℕ
       d = getD es i []
 
-      values-in : valuesFor (getD os i noDatagram .values) group ≡ valuesAt u (fieldsOf (u .identifier) d .readings) group
-      unfolding tell datagramWith
+      abbrev given : Values
+      given = valuesFor (groupValues (sensorOf u .units) (sensorOf u .shifts) (fieldsOf (u .identifier) d .readings)) group
+
+      values-in : valuesFor (getD os i noDatagram .values) group ≡ given
+      unfolding datagramWith
       values-in =
-          ap (λ (o : Datagram). valuesFor (o .values) group) (answer ∙ told-at (consumer u) noHistory es i noDatagram l)
-          ∙ values-at u (fieldsOf (u .identifier) d .readings) group h
+          ap (λ (o : Datagram). valuesFor (o .values) group)
+          (answer
+          ∙ told-at (consumer u) noHistory es i noDatagram l
+          ∙ told-datagram u ok _ (carriedAfter (consumer u) noHistory (take i es)) d)
 
       reading-small : natAbs (sighting u group axis d .reading) ≤ 2 ^ 31
       reading-small =
           let b = datagram-parts u d (among-each a i l) .0 in
           omega (arith, abs-of-range (sighting u group axis d .reading) (fields-fit (u .identifier) d b .readings group axis))
-
-      value-in :
-          getD (doublesIn (valuesFor (getD os i noDatagram .values) group)) axis plusZero
-          ≡ quotient (sighting u group axis d .reading) (knownShift (shiftOf u group))
-      value-in =
-          ap (λ (v : Values). getD (doublesIn v) axis plusZero) values-in
-          ∙ ap (λ (l : List Float). getD l axis plusZero) (values-told u (fieldsOf (u .identifier) d .readings) group .doubles)
-          ∙ each
-          (λ (n : ℕ).
-          getD
-          (quotient (sighting u group 0 d .reading) (knownShift (shiftOf u group)) ∷
-          quotient (sighting u group 1 d .reading) (knownShift (shiftOf u group)) ∷
-          quotient (sighting u group 2 d .reading) (knownShift (shiftOf u group)) ∷
-          [])
-          n plusZero
-          ≡ quotient (sighting u group n d .reading) (knownShift (shiftOf u group)))
-          refl refl refl axis k
 
       total-ruled :
           totalAt (getD os i noDatagram .totals) group axis
@@ -194,13 +183,10 @@ module _ (u : Setup) (ok : rulingOn u ≡ Accepted) where
       exact-at : Exact u es i (getD os i noDatagram) group axis
       exact-at =
           record {
-            unit =
-                ap unitOf values-in ∙ values-told u (fieldsOf (u .identifier) d .readings) group .unit ∙ accepted-unit u ok group h;
+            unit = ap unitOf values-in ∙ accepted-unit u ok (fieldsOf (u .identifier) d .readings) group h;
             value =
-                subst (λ (x : Float). HasValue x (negative (sighting u group axis d .reading)) (natAbs (sighting u group axis d .reading)) (2 ^ shiftOf u group)) (sym value-in)
-                (subst (λ (n : ℕ). HasValue (quotient (sighting u group axis d .reading) (knownShift (shiftOf u group))) (negative (sighting u group axis d .reading)) (natAbs (sighting u group axis d .reading)) (2 ^ n))
-                (accepted-shift u ok group h)
-                (reading-exact (sighting u group axis d .reading) (shiftOf u group) reading-small));
+                subst (λ (v : Values). HasValue (getD (doublesIn v) axis plusZero) (negative (sighting u group axis d .reading)) (natAbs (sighting u group axis d .reading)) (2 ^ shiftOf u group)) (sym values-in)
+                (accepted-value u ok (fieldsOf (u .identifier) d .readings) group h axis k reading-small);
             total = total-ruled;
             double = total-value;
           }
@@ -220,7 +206,7 @@ module _ (u : Setup) (ok : rulingOn u ≡ Accepted) where
         unfolding ss
         there = omega (arith, sightings-length u group axis es)
 
-        stands : totals.Stands fine (getD ts 0 (pos 0)) (getD ts (fitBefore ss i) (pos 0)) (axisThen u group axis h k es i)
+        stands : totals.Stands fine (getD ts 0 (pos 0)) (getD ts (fitBefore ss i) (pos 0)) (axisThen u group axis ok h k es i)
         unfolding ss
         stands =
             subst (totals.Stands fine (getD ts 0 (pos 0)) (getD ts (fitBefore ss i) (pos 0)))
@@ -337,7 +323,7 @@ module _ (u : Setup) (ok : rulingOn u ≡ Accepted) where
         contained =
             λ c es a i l. subst (Contained u es i) (sym (ap (λ (os : List Datagram). getD os i noDatagram) (answers c es a))) (contained-at u ok es i l);
         exact = λ c es a i l group axis h k. exact-at c es a i l group axis h k;
-        independent = λ group axis h k ds es e i. independent u group axis h k ds es e i;
+        independent = λ group axis h k ds es e i. independent u group axis ok h k ds es e i;
         bytes = λ c. (fed-stream c, scanned c .0, scanned c .1);
       }
 

@@ -9,11 +9,12 @@ use native.Mathlib.Numerals.{add-one}
 use native.Mathlib.Omega.{arith}
 use lib.ListN.{length}
 use Rattle.setup.specs.Setup.{rulingOn, lengthOf}
+use Rattle.setup.specs.Sensor.{sensorOf}
 use Rattle.setup.specs.declared.Setup.{Setup}
 use Rattle.setup.specs.declared.Ruling.the-variants.{Accepted}
 use Rattle.wire.specs.Fields.{fieldsOf}
 use Rattle.wire.proofs.FieldRanges.{fields-fit}
-use Rattle.motion.specs.Totals.{stepped}
+use Rattle.motion.specs.Totals.{groupsKept}
 use Rattle.scan.specs.Carry.{Invariant}
 use Rattle.search.specs.Search.{isDatagram}
 use Rattle.session.specs.Session.{axesRight}
@@ -23,23 +24,26 @@ use Rattle.receiver.specs.Feed.{historyAfter, historyRight, consumer}
 use Rattle.session.proofs.AxisLaws.{axes-step, none-right}
 use Rattle.search.proofs.ByteLists.{datagram-parts}
 use Rattle.search.proofs.Datagrams.{datagram-length}
+use Rattle.receiver.proofs.BySetup.{after-datagram}
 use Rattle.receiver.proofs.Refinement.{history-parts, parts-history}
 
 module _ (u : Setup) (ok : rulingOn u ≡ Accepted) where
   start-right : historyRight u 0 noHistory ≡ true
-  start-right = parts-history u 0 noHistory (omega (arith, mul-zero (lengthOf u))) (none-right u)
+  start-right = parts-history u 0 noHistory (omega (arith, mul-zero (lengthOf u))) (none-right (groupsKept u))
 
   next-right :
       (n : ℕ) (x : History) (first : Bool) (d : List ℕ) → isDatagram u d ≡ true → historyRight u n x ≡ true
-      → historyRight u (n + length d) (historyAfter u first x d) ≡ true
-  unfolding historyAfter historyNext
+      → historyRight u (n + length d) (historyAfter (sensorOf u) first x d) ≡ true
+  unfolding historyNext
   next-right n x first d a e =
       let p = history-parts u n x e in
       let c = fieldsOf (u .identifier) d in
       let l : length d ≡ lengthOf u = datagram-length u d a in
-      let g = axes-step u (x .datagrams .0) (x .axes) (c .readings) (c .statuses) (fields-fit (u .identifier) d (datagram-parts u d a .0) .readings) (p .1) in
-      parts-history u (n + length d) (historyAfter u first x d) (omega (arith, p .0, mul-add (lengthOf u) (x .datagrams .0) 1, mul-one (lengthOf u)))
-      (subst (λ (k : ℕ). axesRight u k (stepped u (x .axes) (c .readings) (c .statuses)) ≡ true) (sym (add-one (x .datagrams .0))) g)
+      let h = historyNext (groupsKept u) x (c .readings) (c .statuses) (c .counter) in
+      let g = axes-step (groupsKept u) (x .datagrams .0) (x .axes) (c .readings) (c .statuses) (fields-fit (u .identifier) d (datagram-parts u d a .0) .readings) (p .1) in
+      subst (λ (y : History). historyRight u (n + length d) y ≡ true) (sym (after-datagram u ok first x d))
+      (parts-history u (n + length d) h (omega (arith, p .0, mul-add (lengthOf u) (x .datagrams .0) 1, mul-one (lengthOf u)))
+      (subst (λ (k : ℕ). axesRight u k (h .axes) ≡ true) (sym (add-one (x .datagrams .0))) g))
 
   pub history-invariant : Invariant (consumer u) (isDatagram u)
   history-invariant = record { at-start = start-right; at-step = λ n x d a e. next-right n x _ d a e }

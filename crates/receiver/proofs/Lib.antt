@@ -1,5 +1,6 @@
 -- Laws of feeding, and the proofs of the demands.
 pub mod Joining
+pub mod BySetup
 pub mod Refinement
 pub mod CallParts
 pub mod HistoryInvariant

@@ -14,8 +14,8 @@ use Rattle.receiver.specs.declared.Reply.{Reply}
 use Rattle.receiver.specs.Feed.{consumer, stateOf, replyOf}
 
 -- the contents of a datagram from its readings and its other fields
-abbrev pub contentsOf : List (List ℤ) → Fields → Contents
-contentsOf readings f =
+abbrev pub contentsWith : List (List ℤ) → Fields → Contents
+contentsWith readings f =
     record {
       readings = readings;
       statuses = f .statuses;

@@ -9,12 +9,14 @@ use Rattle.setup.specs.Setup.{lengthOf}
 use Rattle.setup.specs.declared.Setup.{Setup}
 use Rattle.setup.specs.declared.Ruling as ruling
 use Rattle.setup.specs.declared.Ruling.{Ruling}
-use Rattle.wire.specs.Fields.{Contents, fieldsOf, besidesReadings}
+use Rattle.setup.specs.Sensor.{sensorOf}
+use Rattle.setup.specs.declared.Sensor.{Sensor}
+use Rattle.wire.specs.Fields.{Contents, contentsOf, besidesReadings}
 use Rattle.wire.specs.declared.Fields.{Fields}
 use Rattle.motion.specs.Status.{flagged}
 use Rattle.motion.specs.Doubles.{plusZero, groupValues}
 use Rattle.motion.specs.Gaps.{datagrams, gapBetween}
-use Rattle.motion.specs.Totals.{totalsOf, totalDoubles}
+use Rattle.motion.specs.Totals.{noAxes, keptBy, totalsOf, totalDoubles}
 use Rattle.motion.specs.declared.Axes.{Axes}
 use Rattle.motion.specs.declared.Gap.{Gap}
 use Rattle.motion.specs.declared.Gap.the-variants.{Missed}
@@ -26,7 +28,7 @@ use Rattle.scan.specs.Calls.{Fed, Report, Run}
 use Rattle.scan.specs.Carry as carry
 use Rattle.scan.specs.Carry.{Consumer, carrying}
 use Rattle.search.specs.Search.{verdictOf}
-use Rattle.session.specs.History.{noAxes, noHistory, awaitsFirst, historyNext}
+use Rattle.session.specs.History.{noHistory, awaitsFirst, historyNext}
 use Rattle.session.specs.Session.{sessionWith, heldBytes, axesRight, pieceRuling}
 use Rattle.session.specs.declared.History.{History}
 use Rattle.session.specs.declared.Session.{Session}
@@ -37,40 +39,43 @@ use Rattle.receiver.specs.declared.Reply.{Reply}
 
 -- ---- what a datagram does to a session, and what comes back with it
 
--- a datagram as it comes back, of its contents; gap: what lies before it; a: the axes after it
-unfoldable pub datagramWith : Setup → Gap → Contents → Axes → Datagram
-datagramWith u gap c a =
-    record {
-      gyro = getD (c .readings) 0 [];
-      accelerometer = getD (c .readings) 1 [];
-      inclinometer = getD (c .readings) 2 [];
-      fields = besidesReadings c;
-      flagged = map flagged (c .statuses);
-      values = groupValues u (c .readings);
-      gap = gap;
-      totals = totalsOf a;
-      doubles = totalDoubles u a;
-    }
+-- by what an accepted setup says of its sensor
+module _ (s : Sensor) where
+  -- a datagram as it comes back, of its contents; gap: what lies before it; a: the axes after it
+  unfoldable pub datagramWith : Gap → Contents → Axes → Datagram
+  datagramWith gap c a =
+      record {
+        gyro = getD (c .readings) 0 [];
+        accelerometer = getD (c .readings) 1 [];
+        inclinometer = getD (c .readings) 2 [];
+        fields = besidesReadings c;
+        flagged = map flagged (c .statuses);
+        values = groupValues (s .units) (s .shifts) (c .readings);
+        gap = gap;
+        totals = totalsOf a;
+        doubles = totalDoubles (s .shifts) a;
+      }
 
-module _ (u : Setup) where
   -- the history behind a datagram
   unfoldable pub historyAfter : Bool → History → List ℕ → History
   historyAfter first h d =
-      let c : Contents = fieldsOf (u .identifier) d in
-      historyNext u h (c .readings) (c .statuses) (c .counter)
+      let c : Contents = contentsOf (s .row) d in
+      historyNext (keptBy (s .row) (s .units)) h (c .readings) (c .statuses) (c .counter)
 
   -- what comes back with it; first: whether it counts as a first one
   unfoldable pub tell : Bool → History → List ℕ → Datagram
   tell first h d =
-      let c : Contents = fieldsOf (u .identifier) d in
-      datagramWith u (gapBetween u first (h .previous) (c .counter)) c (historyAfter first h d .axes)
+      let c : Contents = contentsOf (s .row) d in
+      datagramWith (gapBetween (s .rate) first (h .previous) (c .counter)) c (historyAfter first h d .axes)
 
+module _ (u : Setup) where
   -- what refusal 10 asks of the history, n bytes having been handed out
   unfoldable pub historyRight : ℕ → History → Bool
   historyRight n h = eqb n (lengthOf u * h .datagrams .0) && axesRight u (h .datagrams .0) (h .axes)
 
   abbrev pub consumer : Consumer History Datagram
-  consumer = record { start = noHistory; awaitsFirst = awaitsFirst; step = historyAfter; tell = tell; admits = historyRight }
+  consumer =
+      record { start = noHistory; awaitsFirst = awaitsFirst; step = historyAfter (sensorOf u); tell = tell (sensorOf u); admits = historyRight }
 
 -- ---- where no datagram is handed out: zeros and unit 0
 

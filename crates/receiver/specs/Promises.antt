@@ -17,13 +17,13 @@ use Rattle.wire.specs.Fields.{fieldsOf, besidesReadings}
 use Rattle.motion.specs.Status.{flagged}
 use Rattle.motion.specs.Gaps.{gapAt}
 use Rattle.motion.specs.Doubles.{negative, plusZero, unitOf, doublesIn, valuesFor}
-use Rattle.motion.specs.Totals.{Sighting, keeps, seen, totalAt, doubleAt, fitReadings, fitBefore, readingOf, Close, totalOf, after}
+use Rattle.motion.specs.Totals.{noAxis, Sighting, keeps, seen, totalAt, doubleAt, fitReadings, fitBefore, readingOf, Close, totalOf, after}
 use Rattle.scan.specs.Scan.{scan}
 use Rattle.scan.specs.Calls.{Report}
 use Rattle.scan.specs.Stream.{stream, reports, NoTen, Among}
 use Rattle.scan.specs.Carry.{told}
 use Rattle.search.specs.Search.{isDatagram, limitsOf, verdictOf}
-use Rattle.session.specs.History.{noAxis, noHistory}
+use Rattle.session.specs.History.{noHistory}
 use Rattle.session.specs.Session.{heldBytes, isSound, opening}
 use Rattle.session.specs.declared.Session.{Session}
 use Rattle.receiver.specs.declared.Datagram.{Datagram}

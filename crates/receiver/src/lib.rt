@@ -5,14 +5,14 @@ ghost use Prim.Native.Nat.{_+_, _≤_, _<_, min};
 ghost use lib.ListN.{length, drop};
 ghost use lib.Seq.{sets};
 ghost use Rattle.setup.specs.Setup.{rulingOn};
+ghost use Rattle.setup.specs.Sensor.{sensorOf};
 ghost use Rattle.setup.specs.declared.Ruling.the-variants.{Accepted};
-ghost use Rattle.motion.specs.Totals.{totalsOf};
+ghost use Rattle.motion.specs.Totals.{noAxes, totalsOf};
 ghost use Rattle.scan.specs.Scan.{first, later, ends, finds};
 ghost use Rattle.search.specs.Search.{rulesOf, verdictOf};
-ghost use Rattle.session.specs.History.{noAxes};
 ghost use Rattle.session.specs.Session.{padded, sessionWith, heldBytes, pieceRuling};
 ghost use Rattle.receiver.specs.Feed.{datagramWith, noFields, noValues, noDoubles, noDatagram, refusal, feedOf};
-ghost use Rattle.receiver.specs.CallParts.{contentsOf, replyAfter, replyAtOnce, Room};
+ghost use Rattle.receiver.specs.CallParts.{contentsWith, replyAfter, replyAtOnce, Room};
 use motion::Axes;
 use motion::Datagrams;
 use motion::Gap;
@@ -23,10 +23,10 @@ use motion::TotalDoubles;
 use motion::Totals;
 use motion::Values;
 use search::Place;
+use session::Admission;
 use session::History;
 use session::Session;
-use setup::Ruling;
-use setup::Setup;
+use setup::Sensor;
 use wire::Fields;
 
 // A datagram as it comes back.
@@ -62,13 +62,13 @@ pub struct Reply {
 
 // A datagram as it comes back, of its readings and its other fields; `gap`: what lies before it, `axes`: those after it.
 fn datagram_of(
-    setup: Setup,
+    sensor: Sensor,
     gap: Gap,
     readings: [[i32; 3]; 3],
     fields: Fields,
     axes: Axes,
 ) -> Datagram
-    ensures { λ r. ⌜ r ≡ datagramWith setup gap (contentsOf readings fields) axes ⌝ }
+    ensures { λ r. ⌜ r ≡ datagramWith sensor gap (contentsWith readings fields) axes ⌝ }
 {
     let statuses = fields.statuses;
     let flagged = [
@@ -76,9 +76,11 @@ fn datagram_of(
         motion::flagged_channels(statuses[1]),
         motion::flagged_channels(statuses[2]),
     ];
-    let values = motion::group_values(setup, readings);
+    let units = sensor.units;
+    let shifts = sensor.shifts;
+    let values = motion::group_values(units, shifts, readings);
     let totals = motion::totals_of(axes);
-    let doubles = motion::total_doubles(setup, axes);
+    let doubles = motion::total_doubles(shifts, axes);
     let gyro = readings[0];
     let accelerometer = readings[1];
     let inclinometer = readings[2];
@@ -236,21 +238,23 @@ fn session_behind(
 }
 
 // The call ends with a datagram d, so many bytes having been passed over before it: it moves the history on and comes back.
-fn hand_out(session: Session, passed: usize, taken: usize, d: &[u8]) -> Reply
-    requires { ⌜ Room session passed × Room session taken ⌝ }
+fn hand_out(session: Session, sensor: Sensor, passed: usize, taken: usize, d: &[u8]) -> Reply
+    requires { ⌜ Room session passed × Room session taken × (sensor ≡ sensorOf (session .setup)) ⌝ }
     ensures { λ r. ⌜ r ≡ replyAfter session taken (finds passed (now (d .entry)) []) ⌝ }
 {
-    let setup = session.setup;
-    let identifier = setup.identifier;
+    let row = sensor.row;
+    let rate = sensor.rate;
+    let units = sensor.units;
     let before = session.history;
-    let readings = wire::readings(identifier, d);
-    let fields = wire::fields_of(identifier, d);
+    let readings = wire::readings(row, d);
+    let fields = wire::fields_of(row, d);
     let statuses = fields.statuses;
     let counter = fields.counter;
-    let gap = session::gap_before(setup, before, counter);
-    let history = session::advance(setup, before, readings, statuses, counter);
+    let gap = session::gap_before(rate, before, counter);
+    let kept = motion::kept_groups(row, units);
+    let history = session::advance(kept, before, readings, statuses, counter);
     let axes = history.axes;
-    let datagram = datagram_of(setup, gap, readings, fields, axes);
+    let datagram = datagram_of(sensor, gap, readings, fields, axes);
     let after = session_behind(session, history, passed, taken, &d[..0]);
     Reply {
         answer: Answer::Datagram,
@@ -290,16 +294,15 @@ fn refuse(session: Session, number: u8) -> Reply
 }
 
 // The call's scan of a piece from a place on, so many bytes having been passed over before it.
-fn scan_on(session: Session, passed: usize, piece: &[u8], from: usize) -> Reply
-    requires { ⌜ (rulingOn (session .setup) ≡ Accepted) × (from ≤ length (now piece)) × Room session (passed + length (now piece)) ⌝ }
+fn scan_on(session: Session, sensor: Sensor, passed: usize, piece: &[u8], from: usize) -> Reply
+    requires { ⌜ (rulingOn (session .setup) ≡ Accepted) × (from ≤ length (now piece)) × Room session (passed + length (now piece)) × (sensor ≡ sensorOf (session .setup)) ⌝ }
     ensures { λ r. ⌜ r ≡ replyAtOnce session (now (piece .entry)) (later passed (first (verdictOf (session .setup)) (drop from (now (piece .entry))))) ⌝ }
 {
-    let setup = session.setup;
     let rest = &piece[from..];
-    match search::find(setup, rest) {
+    match search::find(sensor, rest) {
         Place::Complete(at, size) => {
             let end = at + size;
-            hand_out(session, passed + at, from + end, &rest[at..end])
+            hand_out(session, sensor, passed + at, from + end, &rest[at..end])
         }
         Place::Undecided(at) => hold(session, passed + at, piece.len(), &rest[at..]),
     }
@@ -307,11 +310,10 @@ fn scan_on(session: Session, passed: usize, piece: &[u8], from: usize) -> Reply
 
 // The call's scan of the bytes held and then of a piece: of both where they meet, and from there on of the piece alone.
 // `longest`: the greatest length of a datagram.
-fn scan_held(session: Session, longest: usize, piece: &[u8]) -> Reply
-    requires { ⌜ (rulingOn (session .setup) ≡ Accepted) × (longest ≡ rulesOf (session .setup) .greatest) × (session .count < longest) × Room session (128 + length (now piece)) ⌝ }
+fn scan_held(session: Session, sensor: Sensor, longest: usize, piece: &[u8]) -> Reply
+    requires { ⌜ (rulingOn (session .setup) ≡ Accepted) × (longest ≡ rulesOf (session .setup) .greatest) × (session .count < longest) × Room session (128 + length (now piece)) × (sensor ≡ sensorOf (session .setup)) ⌝ }
     ensures { λ r. ⌜ r ≡ replyAtOnce session (now (piece .entry)) (first (verdictOf (session .setup)) (heldBytes session ++ now (piece .entry))) ⌝ }
 {
-    let setup = session.setup;
     let count = session.count;
     let held = session.held;
     let len = piece.len();
@@ -319,42 +321,42 @@ fn scan_held(session: Session, longest: usize, piece: &[u8]) -> Reply
     let joined = join(&held[..count], &piece[..front]);
     let n = count + front;
     let window = &joined[..n];
-    match search::find(setup, window) {
+    match search::find(sensor, window) {
         Place::Complete(at, size) => {
             let end = at + size;
-            hand_out(session, at, end - count, &window[at..end])
+            hand_out(session, sensor, at, end - count, &window[at..end])
         }
         Place::Undecided(at) => {
             if front == len {
                 hold(session, at, len, &window[at..])
             } else {
-                scan_on(session, at, piece, at - count)
+                scan_on(session, sensor, at, piece, at - count)
             }
         }
     }
 }
 
 // The call's scan, where nothing refuses the piece.
-fn scan_piece(session: Session, piece: &[u8]) -> Reply
-    requires { ⌜ pieceRuling session (length (now piece)) ≡ Accepted ⌝ }
+fn scan_piece(session: Session, sensor: Sensor, piece: &[u8]) -> Reply
+    requires { ⌜ (pieceRuling session (length (now piece)) ≡ Accepted) × (sensor ≡ sensorOf (session .setup)) ⌝ }
     ensures { λ r. ⌜ r ≡ feedOf session (now (piece .entry)) ⌝ }
 {
-    let setup = session.setup;
     let count = session.count;
     if count == 0 {
-        return scan_on(session, 0, piece, 0);
+        return scan_on(session, sensor, 0, piece, 0);
     }
-    let longest = setup::length_of(setup);
-    scan_held(session, longest, piece)
+    let row = sensor.row;
+    let longest = wire::length_of(row, sensor.terminated);
+    scan_held(session, sensor, longest, piece)
 }
 
 // A call: 10, 11 or 12 refuses it, or it takes bytes of the piece until a datagram is complete or the piece ends (01, The scan).
 pub fn feed(session: Session, piece: &[u8]) -> Reply
     ensures { λ r. ⌜ r ≡ feedOf session (now (piece .entry)) ⌝ }
 {
-    let ruling = session::rule_on_piece(session, piece.len());
-    match ruling {
-        Ruling::Refused(number) => refuse(session, number),
-        Ruling::Accepted => scan_piece(session, piece),
+    let admission = session::admit(session, piece.len());
+    match admission {
+        Admission::Refused(number) => refuse(session, number),
+        Admission::Admitted(sensor) => scan_piece(session, sensor, piece),
     }
 }

@@ -2,3 +2,4 @@
 pub mod ByteLists
 pub mod Datagrams
 pub mod Places
+pub mod Sensors

@@ -6,8 +6,11 @@ use lib.Dec.{ltb}
 use lib.ListN.{length}
 use Rattle.setup.specs.Setup.{lengthOf}
 use Rattle.setup.specs.declared.Setup.{Setup}
-use Rattle.wire.specs.Acceptable.{acceptable}
+use Rattle.setup.specs.Layout.{layoutOf, lengthIn}
+use Rattle.setup.specs.declared.Sensor.{Sensor}
+use Rattle.wire.specs.Acceptable.{acceptableIn, acceptable}
 use Rattle.scan.specs.Scan.{Verdict, First, ends, finds}
+use Rattle.scan.specs.Front.{front}
 use Rattle.scan.specs.Rules.{Limits, Rules, verdict}
 use Rattle.scan.specs.OneLength.{oneCandidate, heldRule}
 use Rattle.search.specs.declared.Place.{Place}
@@ -44,6 +47,16 @@ rulesOf u =
 -- what is decided at the front of the undecided bytes
 abbrev pub verdictOf : Setup → List ℕ → Verdict
 verdictOf u = verdict (rulesOf u)
+
+-- the same by what an accepted setup says of its sensor: an acceptable datagram, its length, what is decided at the front
+unfoldable pub isDatagramIn : Sensor → List ℕ → Bool
+isDatagramIn s d = areBytes d && acceptableIn (s .identifier) (layoutOf (s .row) (s .terminated)) d
+
+abbrev pub sizeIn : Sensor → ℕ
+sizeIn s = lengthIn (layoutOf (s .row) (s .terminated))
+
+abbrev pub verdictIn : Sensor → List ℕ → Verdict
+verdictIn s = front (oneCandidate (s .identifier) (sizeIn s)) (isDatagramIn s)
 
 -- where the scan up to its first datagram stops: where that begins and how long it is, or from where on the bytes are undecided
 abbrev pub placeOf : First → Place

@@ -1,4 +1,5 @@
--- What a sound session's axes are: each of the nine by itself, and that a datagram's step leaves them so (01, What is turned down, 10). Assumes nothing.
+-- What a sound session's axes are: each of the nine by itself, and that a datagram's step leaves them so (01, What is turned down, 10).
+-- Assumes nothing.
 use mathlib.Core.Path.{_≡_, refl, sym, ap, _∙_, subst}
 use mathlib.Core.Bool.{Bool, true, false, not, _&&_, _||_}
 use mathlib.Core.List.{List, []}
@@ -10,16 +11,15 @@ use borrow.Author.Tests.{not-true}
 use Rattle.integers.specs.Ranges.{isZero}
 use Rattle.integers.proofs.Folding.{InRange}
 use Rattle.integers.proofs.Ranges.{and-split, within-true, le-within, inReading-true, range-inReading, isZero-true}
-use Rattle.setup.specs.declared.Setup.{Setup}
+use Rattle.setup.proofs.Refusals.{each}
 use Rattle.motion.specs.declared.Axis.{Axis}
 use Rattle.motion.specs.declared.GroupAxes.{GroupAxes}
 use Rattle.motion.specs.declared.Axes.{Axes}
-use Rattle.motion.specs.Totals.{Sighting, keptStep, keeps, seen, stepped, axisIn, axisAt}
-use Rattle.motion.proofs.NineAxes.{each, step-at}
+use Rattle.motion.specs.Totals.{Sighting, noAxis, noGroup, noAxes, keptStep, seen, stepped, axisIn, axisAt}
+use Rattle.motion.proofs.NineAxes.{step-at}
 use Rattle.motion.proofs.Bounds.{step-bound, last-range, not-begun, step-not-kept}
 use Rattle.scan.proofs.CallsLaws.{and-true}
-use Rattle.session.specs.History.{noAxis, noGroup, noAxes}
-use Rattle.session.specs.Session.{totalRight, lastRight, isIdle, idleRight, axisRight, groupRight, axesRight}
+use Rattle.session.specs.Session.{totalRight, lastRight, isIdle, idleRight, axisRight, groupRight, axesRightBy}
 
 -- ---- one axis
 
@@ -69,7 +69,8 @@ unfolding groupRight
 group-at kept n g e =
     let p = and-split (axisRight kept n (g .x)) (axisRight kept n (g .y) && axisRight kept n (g .z)) e in
     let q = and-split (axisRight kept n (g .y)) (axisRight kept n (g .z)) (p .1) in
-    each (λ axis. AxisFacts kept n (axisIn g axis)) (axis-facts kept n (g .x) (p .0)) (axis-facts kept n (g .y) (q .0)) (axis-facts kept n (g .z) (q .1))
+    each (λ axis. AxisFacts kept n (axisIn g axis)) (axis-facts kept n (g .x) (p .0)) (axis-facts kept n (g .y) (q .0))
+    (axis-facts kept n (g .z) (q .1))
 
 each-group : (kept : Bool) (n : ℕ) (g : GroupAxes) → ((axis : ℕ) → axis < 3 → AxisFacts kept n (axisIn g axis)) → groupRight kept n g ≡ true
 unfolding groupRight
@@ -77,23 +78,28 @@ each-group kept n g h =
     and-true (facts-axis kept n (g .x) (h 0 (omega arith)))
     (and-true (facts-axis kept n (g .y) (h 1 (omega arith))) (facts-axis kept n (g .z) (h 2 (omega arith))))
 
-pub axes-at : (u : Setup) (n : ℕ) (a : Axes) → axesRight u n a ≡ true → (group axis : ℕ) → group < 3 → axis < 3 → AxisFacts (keeps u group) n (axisAt a group axis)
-unfolding axesRight
-axes-at u n a e group axis h k =
-    let p = and-split (groupRight (keeps u 0) n (a .gyro)) (groupRight (keeps u 1) n (a .accelerometer) && groupRight (keeps u 2) n (a .inclinometer)) e in
-    let q = and-split (groupRight (keeps u 1) n (a .accelerometer)) (groupRight (keeps u 2) n (a .inclinometer)) (p .1) in
-    each (λ m. AxisFacts (keeps u m) n (axisAt a m axis))
-    (group-at (keeps u 0) n (a .gyro) (p .0) axis k)
-    (group-at (keeps u 1) n (a .accelerometer) (q .0) axis k)
-    (group-at (keeps u 2) n (a .inclinometer) (q .1) axis k)
-    group h
+-- kept: which groups keep totals
+abbrev EachRight : List Bool → ℕ → Axes → Type 0
+EachRight kept n a = (group axis : ℕ) → group < 3 → axis < 3 → AxisFacts (getD kept group false) n (axisAt a group axis)
 
-pub each-axes : (u : Setup) (n : ℕ) (a : Axes) → ((group axis : ℕ) → group < 3 → axis < 3 → AxisFacts (keeps u group) n (axisAt a group axis)) → axesRight u n a ≡ true
-unfolding axesRight
-each-axes u n a h =
-    and-true (each-group (keeps u 0) n (a .gyro) (λ axis k. h 0 axis (omega arith) k))
-    (and-true (each-group (keeps u 1) n (a .accelerometer) (λ axis k. h 1 axis (omega arith) k))
-    (each-group (keeps u 2) n (a .inclinometer) (λ axis k. h 2 axis (omega arith) k)))
+module _ (kept : List Bool) (n : ℕ) (a : Axes) where
+  pub axes-at : axesRightBy kept n a ≡ true → (group axis : ℕ) → group < 3 → axis < 3 → AxisFacts (getD kept group false) n (axisAt a group axis)
+  unfolding axesRightBy
+  axes-at e group axis h k =
+      let p = and-split (groupRight (getD kept 0 false) n (a .gyro)) _ e in
+      let q = and-split (groupRight (getD kept 1 false) n (a .accelerometer)) _ (p .1) in
+      each (λ m. AxisFacts (getD kept m false) n (axisAt a m axis))
+      (group-at (getD kept 0 false) n (a .gyro) (p .0) axis k)
+      (group-at (getD kept 1 false) n (a .accelerometer) (q .0) axis k)
+      (group-at (getD kept 2 false) n (a .inclinometer) (q .1) axis k)
+      group h
+
+  each-axes : EachRight kept n a → axesRightBy kept n a ≡ true
+  unfolding axesRightBy
+  each-axes h =
+      and-true (each-group (getD kept 0 false) n (a .gyro) (λ axis k. h 0 axis (omega arith) k))
+      (and-true (each-group (getD kept 1 false) n (a .accelerometer) (λ axis k. h 1 axis (omega arith) k))
+      (each-group (getD kept 2 false) n (a .inclinometer) (λ axis k. h 2 axis (omega arith) k)))
 
 -- ---- a fresh session's axes
 
@@ -101,19 +107,23 @@ none-facts : (kept : Bool) (n : ℕ) → AxisFacts kept n noAxis
 none-facts kept n = record { total = omega arith; last = record { above = omega arith; below = omega arith }; idle = λ e. refl }
 
 none-group : (kept : Bool) → groupRight kept 0 noGroup ≡ true
-none-group kept = each-group kept 0 noGroup (each (λ axis. AxisFacts kept 0 (axisIn noGroup axis)) (none-facts kept 0) (none-facts kept 0) (none-facts kept 0))
+none-group kept =
+    each-group kept 0 noGroup
+    (each (λ axis. AxisFacts kept 0 (axisIn noGroup axis)) (none-facts kept 0) (none-facts kept 0) (none-facts kept 0))
 
-pub none-right : (u : Setup) → axesRight u 0 noAxes ≡ true
-unfolding axesRight
-none-right u = and-true (none-group (keeps u 0)) (and-true (none-group (keeps u 1)) (none-group (keeps u 2)))
+pub none-right : (kept : List Bool) → axesRightBy kept 0 noAxes ≡ true
+unfolding axesRightBy
+none-right kept = and-true (none-group (getD kept 0 false)) (and-true (none-group (getD kept 1 false)) (none-group (getD kept 2 false)))
 
 -- ---- a datagram's step, for readings in 24 bits
 
-step-idle : (kept : Bool) (a : Axis) (d : Sighting) → ((kept && a .begun) ≡ false → a ≡ noAxis) → (kept && keptStep kept a d .begun) ≡ false → keptStep kept a d ≡ noAxis
+step-idle : (kept : Bool) (a : Axis) (d : Sighting) → ((kept && a .begun) ≡ false → a ≡ noAxis) → (kept && keptStep kept a d .begun) ≡ false
+    → keptStep kept a d ≡ noAxis
 step-idle false a d h e = step-not-kept a d ∙ h refl
 step-idle true a d h e = let same = not-begun true a d e in same ∙ h (ap (λ (x : Axis). x .begun) (sym same) ∙ e)
 
-pub axis-step : (kept : Bool) (n : ℕ) (a : Axis) (d : Sighting) → InRange (d .reading) → AxisFacts kept n a → AxisFacts kept (suc n) (keptStep kept a d)
+axis-step : (kept : Bool) (n : ℕ) (a : Axis) (d : Sighting) → InRange (d .reading) → AxisFacts kept n a
+    → AxisFacts kept (suc n) (keptStep kept a d)
 axis-step kept n a d r h =
     record {
       total = step-bound kept a d n (h .total);
@@ -122,12 +132,12 @@ axis-step kept n a d r h =
     }
 
 pub axes-step :
-    (u : Setup) (n : ℕ) (a : Axes) (readings : List (List ℤ)) (statuses : List ℕ)
+    (kept : List Bool) (n : ℕ) (a : Axes) (readings : List (List ℤ)) (statuses : List ℕ)
     → ((g k : ℕ) → InRange (getD (getD readings g []) k (pos 0)))
-    → axesRight u n a ≡ true
-    → axesRight u (suc n) (stepped u a readings statuses) ≡ true
-axes-step u n a readings statuses r e =
-    each-axes u (suc n) (stepped u a readings statuses)
+    → axesRightBy kept n a ≡ true
+    → axesRightBy kept (suc n) (stepped kept a readings statuses) ≡ true
+axes-step kept n a readings statuses r e =
+    each-axes kept (suc n) (stepped kept a readings statuses)
     (λ g k h m.
-    subst (λ (x : Axis). AxisFacts (keeps u g) (suc n) x) (sym (step-at u a readings statuses g k h m))
-    (axis-step (keeps u g) n (axisAt a g k) (seen readings statuses g k) (r g k) (axes-at u n a e g k h m)))
+    subst (λ (x : Axis). AxisFacts (getD kept g false) (suc n) x) (sym (step-at kept a readings statuses g k h m))
+    (axis-step (getD kept g false) n (axisAt a g k) (seen readings statuses g k) (r g k) (axes-at kept n a e g k h m)))

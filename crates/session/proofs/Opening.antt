@@ -1,4 +1,5 @@
--- What opening gives: a sound session, or a refusal by 4 to 9 with a session of zeros, which isn't sound (01, The scan; What is turned down). Assumes nothing.
+-- What opening gives: a sound session, or a refusal by 4 to 9 with a session of zeros, which isn't sound (01, The scan; What is turned down).
+-- Assumes nothing.
 use mathlib.Core.Path.{_≡_, refl}
 use mathlib.Core.Bool.{true, false}
 use Prim.Native.Nat.{ℕ, _≤_}
@@ -9,10 +10,11 @@ use Rattle.setup.specs.declared.Setup.{Setup}
 use Rattle.setup.specs.declared.Ruling.{Ruling}
 use Rattle.setup.specs.declared.Ruling.the-variants.{Accepted, Refused}
 use Rattle.setup.proofs.Refusals.{judge-numbers, zeros-refused}
+use Rattle.motion.specs.Totals.{groupsKept}
 use Rattle.scan.specs.OneLength.{heldRule}
 use Rattle.session.specs.Session.{freshOf, openedBy, opening, isAccepted, allZero, isSound}
 use Rattle.session.proofs.AxisLaws.{none-right}
-use Rattle.session.proofs.Soundness.{facts-sound}
+use Rattle.session.proofs.Soundness.{facts-sound, refused-unsound}
 
 -- ---- the session that opening gives, by the ruling
 
@@ -41,7 +43,7 @@ fresh-sound u e =
       rest = refl;
       sum = omega (arith, mul-zero (lengthOf u));
       most = omega arith;
-      axes = none-right u;
+      axes = none-right (groupsKept u);
     })
 
 -- ---- a refused one gives its number, 4 to 9, and a session of zeros, which is not sound
@@ -55,5 +57,5 @@ unfolding opening
 opening-numbers u e = judge-numbers u e
 
 pub zeros-unsound : isSound (freshOf zeroSetup) ≡ false
-unfolding isSound freshOf
-zeros-unsound = rw zeros-refused
+unfolding freshOf
+zeros-unsound = refused-unsound (freshOf zeroSetup) zeros-refused

@@ -1,14 +1,19 @@
--- What the ruling on a piece tells: the number that refuses it, or that nothing does (01, What is turned down, 10 to 12). Assumes nothing.
-use Prim.Native.Nat.{ℕ, _+_, _≤_, _<_}
-use mathlib.Core.Path.{_≡_}
-use mathlib.Core.Bool.{true, false}
+-- What the ruling on a piece and the admission tell: the number that refuses it, or that nothing does (01, What is turned down, 10 to 12).
+-- Assumes nothing.
+use Prim.Native.Nat.{ℕ, _+_, _≤_}
+use mathlib.Core.Path.{_≡_, refl, ap}
+use mathlib.Core.Bool.{true}
 use native.Mathlib.Omega.{arith}
-use borrow.Author.Tests.{lt-ltb, le-ltb, ltb-false, not-false}
+use borrow.Author.Tests.{le-ltb, ltb-false, not-false}
+use Rattle.setup.specs.Sensor.{sensorOf}
+use Rattle.setup.specs.declared.Sensor.{Sensor}
+use Rattle.setup.specs.declared.Ruling.{Ruling}
 use Rattle.setup.specs.declared.Ruling.the-variants.{Accepted, Refused}
 use Rattle.setup.proofs.Rules.{first-within, none-applies}
 use Rattle.search.specs.Search.{limitsOf}
 use Rattle.session.specs.declared.Session.{Session}
-use Rattle.session.specs.Session.{isSound, pieceRules, pieceRuling}
+use Rattle.session.specs.declared.Admission as admission
+use Rattle.session.specs.Session.{isSound, pieceRules, pieceRuling, admissionBy, admissionOf}
 
 -- nothing refuses a piece of n bytes
 pub record Admitted (s : Session) (n : ℕ) : Type 0 where
@@ -31,6 +36,24 @@ module _ (s : Session) (n : ℕ) where
   pub admits : Admitted s n → pieceRuling s n ≡ Accepted
   unfolding pieceRuling
   admits a = rw (a .sound, le-ltb _ _ (a .piece), le-ltb _ _ (a .session))
+
+  -- it is admitted with the sensor of the session's setup, or refused by the ruling's number
+  pub admission-sensor : {sensor : Sensor} → admissionOf s n ≡ admission.the-variants.Admitted sensor → Admitted s n × (sensor ≡ sensorOf (s .setup))
+  unfolding admissionOf
+  admission-sensor {sensor} e = by (pieceRuling s n) refl e
+    where
+      by : (r : Ruling) → pieceRuling s n ≡ r → admissionBy r (sensorOf (s .setup)) ≡ admission.the-variants.Admitted sensor
+          → Admitted s n × (sensor ≡ sensorOf (s .setup))
+      by Accepted h e = (admitted h, cc)
+      by (Refused m) h e = let z : _≡_ {A = ℕ} 0 1 = cc in absurd (omega arith)
+
+  pub admission-number : {m : ℕ} → admissionOf s n ≡ admission.the-variants.Refused m → pieceRuling s n ≡ Refused m
+  unfolding admissionOf
+  admission-number {m} e = by (pieceRuling s n) e
+    where
+      by : (r : Ruling) → admissionBy r (sensorOf (s .setup)) ≡ admission.the-variants.Refused m → r ≡ Refused m
+      by Accepted e = let z : _≡_ {A = ℕ} 0 1 = cc in absurd (omega arith)
+      by (Refused k) e = let q : k ≡ m = cc in ap Refused q
 
   -- the number that refuses it
   pub piece-numbers : {m : ℕ} → pieceRuling s n ≡ Refused m → (10 ≤ m) × (m ≤ 12)

@@ -1,6 +1,6 @@
 -- What it says that a session is sound, clause by clause (01, What is turned down, 10). Assumes nothing.
 use mathlib.Core.Path.{_≡_, refl, sym, ap, _∙_}
-use mathlib.Core.Bool.{true, _&&_, _||_, and-assoc}
+use mathlib.Core.Bool.{true, false, _&&_, _||_, and-assoc}
 use mathlib.Core.List.{List, [], _∷_}
 use Prim.Native.Nat.{ℕ, zero, suc, _+_, _*_, _≤_}
 use native.Mathlib.Omega.{arith}
@@ -61,10 +61,17 @@ facts-sound s h =
     (and-true (eq-eqb (lengthOf (s .setup) * s .history .datagrams .0 + s .passed + s .count) (s .fed) (h .sum))
     (and-true (le-leb (s .fed) (limitsOf (s .setup) .session) (h .most)) (h .axes)))))
 
+-- a session whose setup is refused is not sound
+pub refused-unsound : (s : Session) {n : ℕ} → rulingOn (s .setup) ≡ Refused n → isSound s ≡ false
+unfolding isSound
+refused-unsound s e = rw e
+
 -- ---- what the tests of the code come to
 
 -- the same test with its clauses in pairs, as the code takes them
-pub in-parts : (s : Session) → isSound s ≡ (setupRight s && ((heldRight s && restRight s) && ((sumRight s && fedRight s) && axesRight (s .setup) (s .history .datagrams .0) (s .history .axes))))
+pub in-parts : (s : Session) →
+    let axes = axesRight (s .setup) (s .history .datagrams .0) (s .history .axes) in
+    isSound s ≡ (setupRight s && ((heldRight s && restRight s) && ((sumRight s && fedRight s) && axes)))
 unfolding isSound
 in-parts s =
     let rest = axesRight (s .setup) (s .history .datagrams .0) (s .history .axes) in
@@ -74,7 +81,8 @@ in-parts s =
     ∙ ap (λ t. heldRight s && (restRight s && t)) (and-assoc (sumRight s) (fedRight s) rest)))
 
 -- the rule for held bytes by their count and their first
-pub held-rule : (identifier size : ℕ) (bytes : List ℕ) (n : ℕ) → n ≤ length bytes → heldRule identifier size (take n bytes) ≡ (eqb n 0 || (eqb (getD bytes 0 0) identifier && ltb n size))
+pub held-rule : (identifier size : ℕ) (bytes : List ℕ) (n : ℕ) → n ≤ length bytes
+    → heldRule identifier size (take n bytes) ≡ (eqb n 0 || (eqb (getD bytes 0 0) identifier && ltb n size))
 unfolding heldRule
 held-rule identifier size bytes zero h = refl
 held-rule identifier size [] (suc n) h = absurd (omega arith)

@@ -1,27 +1,14 @@
 -- What a session keeps of the datagrams handed out, and what one more does to it (01, Status, doubles, gaps; Totals).
 use Prim.Native.Nat.{ℕ, _+_, _-_, _^_}
-use mathlib.Core.Bool.{Bool, false, cond}
+use mathlib.Core.Bool.{Bool, cond}
 use mathlib.Core.List.{List}
 use lib.Dec.{eqb, leb}
-use lib.IntN.{ℤ, pos}
-use Rattle.setup.specs.declared.Setup.{Setup}
+use lib.IntN.{ℤ}
+use Rattle.setup.specs.declared.Rate.{Rate}
 use Rattle.motion.specs.Gaps.{datagrams, gapBetween}
-use Rattle.motion.specs.Totals.{stepped}
-use Rattle.motion.specs.declared.Axis.{Axis}
-use Rattle.motion.specs.declared.GroupAxes.{GroupAxes}
-use Rattle.motion.specs.declared.Axes.{Axes}
+use Rattle.motion.specs.Totals.{noAxes, stepped}
 use Rattle.motion.specs.declared.Gap.{Gap}
 use Rattle.session.specs.declared.History.{History}
-
--- an axis to which no fit datagram came
-abbrev pub noAxis : Axis
-noAxis = record { begun = false; last = pos 0; total = pos 0 }
-
-abbrev pub noGroup : GroupAxes
-noGroup = record { x = noAxis; y = noAxis; z = noAxis }
-
-abbrev pub noAxes : Axes
-noAxes = record { gyro = noGroup; accelerometer = noGroup; inclinometer = noGroup }
 
 -- a fresh session's: no datagram was handed out
 abbrev pub noHistory : History
@@ -32,18 +19,18 @@ abbrev pub awaitsFirst : History → Bool
 awaitsFirst h = eqb (h .datagrams .0) 0
 
 -- the gap in front of the next datagram, of its counter
-abbrev pub gapNext : Setup → History → ℕ → Gap
-gapNext u h counter = gapBetween u (awaitsFirst h) (h .previous) counter
+abbrev pub gapNext : Rate → History → ℕ → Gap
+gapNext rate h counter = gapBetween rate (awaitsFirst h) (h .previous) counter
 
--- behind the next datagram, of its readings, its groups' statuses and its counter
-unfoldable pub historyNext : Setup → History → List (List ℤ) → List ℕ → ℕ → History
-historyNext u h readings statuses counter =
-    record { datagrams = datagrams (h .datagrams .0 + 1); previous = counter; axes = stepped u (h .axes) readings statuses }
+-- behind the next datagram, of its readings, its groups' statuses and its counter; kept: which groups keep totals
+unfoldable pub historyNext : List Bool → History → List (List ℤ) → List ℕ → ℕ → History
+historyNext kept h readings statuses counter =
+    record { datagrams = datagrams (h .datagrams .0 + 1); previous = counter; axes = stepped kept (h .axes) readings statuses }
 
 -- the same for every history: one with the greatest count of 64 bits, which no session has, stays as it is
 abbrev pub greatestCount : ℕ
 greatestCount = 2 ^ 64 - 1
 
-unfoldable pub advanced : Setup → History → List (List ℤ) → List ℕ → ℕ → History
-advanced u h readings statuses counter =
-    cond (leb greatestCount (h .datagrams .0)) h (historyNext u h readings statuses counter)
+unfoldable pub advanced : List Bool → History → List (List ℤ) → List ℕ → ℕ → History
+advanced kept h readings statuses counter =
+    cond (leb greatestCount (h .datagrams .0)) h (historyNext kept h readings statuses counter)

@@ -3,13 +3,15 @@ use Prim.Native.Nat.{ℕ, _+_, _*_, _^_, _-_}
 use mathlib.Core.Bool.{Bool, true, false, not, _&&_, _||_}
 use mathlib.Core.List.{List, [], _∷_, _++_}
 use lib.Dec.{eqb, leb, ltb}
-use lib.ListN.{length, take, drop, replicate}
+use lib.ListN.{length, take, drop, getD, replicate}
 use Rattle.integers.specs.Ranges.{isZero, within, inReading}
 use Rattle.setup.specs.Setup.{Rule, rule, firstOf, rulingOn, zeroSetup, lengthOf}
+use Rattle.setup.specs.Sensor.{sensorOf}
 use Rattle.setup.specs.declared.Setup.{Setup}
+use Rattle.setup.specs.declared.Sensor.{Sensor}
 use Rattle.setup.specs.declared.Ruling.{Ruling}
 use Rattle.setup.specs.declared.Ruling.the-variants.{Accepted, Refused}
-use Rattle.motion.specs.Totals.{keeps}
+use Rattle.motion.specs.Totals.{groupsKept}
 use Rattle.motion.specs.declared.Axis.{Axis}
 use Rattle.motion.specs.declared.GroupAxes.{GroupAxes}
 use Rattle.motion.specs.declared.Axes.{Axes}
@@ -20,6 +22,8 @@ use Rattle.session.specs.declared.History.{History}
 use Rattle.session.specs.declared.Session.{Session}
 use Rattle.session.specs.declared.Opened.{Opened}
 use Rattle.session.specs.declared.Limits.{Limits}
+use Rattle.session.specs.declared.Admission.{Admission}
+use Rattle.session.specs.declared.Admission as admission
 
 -- ---- a fresh session, and opening
 
@@ -101,9 +105,13 @@ axisRight kept n a = totalRight n a && (lastRight a && idleRight kept a)
 unfoldable pub groupRight : Bool → ℕ → GroupAxes → Bool
 groupRight kept n g = axisRight kept n (g .x) && (axisRight kept n (g .y) && axisRight kept n (g .z))
 
-unfoldable pub axesRight : Setup → ℕ → Axes → Bool
-axesRight u n a =
-    groupRight (keeps u 0) n (a .gyro) && (groupRight (keeps u 1) n (a .accelerometer) && groupRight (keeps u 2) n (a .inclinometer))
+unfoldable pub axesRightBy : List Bool → ℕ → Axes → Bool
+axesRightBy kept n a =
+    groupRight (getD kept 0 false) n (a .gyro) &&
+    (groupRight (getD kept 1 false) n (a .accelerometer) && groupRight (getD kept 2 false) n (a .inclinometer))
+
+abbrev pub axesRight : Setup → ℕ → Axes → Bool
+axesRight u n a = axesRightBy (groupsKept u) n a
 
 -- feeding doesn't turn the session down by 10
 unfoldable pub isSound : Session → Bool
@@ -124,3 +132,11 @@ pieceRules s n =
 
 unfoldable pub pieceRuling : Session → ℕ → Ruling
 pieceRuling s n = firstOf (pieceRules s n)
+
+-- the number that refuses it, else the sensor of the session's setup
+abbrev pub admissionBy : Ruling → Sensor → Admission
+admissionBy Accepted sensor = admission.the-variants.Admitted sensor
+admissionBy (Refused number) sensor = admission.the-variants.Refused number
+
+unfoldable pub admissionOf : Session → ℕ → Admission
+admissionOf s n = admissionBy (pieceRuling s n) (sensorOf (s .setup))

@@ -4,17 +4,23 @@ ghost use mathlib.Core.Bool.{_&&_};
 ghost use Prim.Native.Nat.{_+_, _*_, _^_, _≤_, _<_, min};
 ghost use lib.Dec.{eqb, leb};
 ghost use lib.ListN.{length, take, drop};
-ghost use Rattle.setup.specs.Setup.{zeroSetup};
+ghost use Rattle.setup.specs.Setup.{rulingOn, zeroSetup};
+ghost use Rattle.setup.specs.Sensor.{sensorOf};
+ghost use Rattle.setup.specs.declared.Ruling.the-variants.{Accepted};
 ghost use Rattle.scan.specs.OneLength.{heldRule};
 ghost use Rattle.search.specs.Search.{limitsOf};
-ghost use Rattle.session.specs.History.{noAxes, noHistory, gapNext, advanced};
-ghost use Rattle.session.specs.Session.{padded, sessionWith, freshOf, opening, asStruct, isAccepted, allZero, axisRight, groupRight, axesRight, isSound, pieceRuling};
+ghost use Rattle.session.specs.History.{noHistory, gapNext, advanced};
+ghost use Rattle.session.specs.Session.{padded, sessionWith, freshOf, opening, asStruct, isAccepted, allZero};
+ghost use Rattle.session.specs.Session.{axisRight, groupRight, axesRightBy, isSound, admissionOf};
 use motion::Axes;
 use motion::Axis;
 use motion::Datagrams;
 use motion::Gap;
 use motion::GroupAxes;
+use setup::Described;
+use setup::Rate;
 use setup::Ruling;
+use setup::Sensor;
 use setup::Setup;
 
 // The most bytes of a piece, the number that refuses a longer one, and the most bytes of a session, 2^34 (01, What is turned down, 10 to 12).
@@ -48,38 +54,23 @@ pub struct Session {
     pub history: History,
 }
 
+// Whether a piece may be fed: with the sensor of the session's setup, or refused by a number.
+pub enum Admission {
+    Admitted(Sensor),
+    Refused(u8),
+}
+
 // What opening gives back: the ruling on the setup, and a fresh session, one of zeros where the setup is refused.
 pub struct Opened {
     pub answer: Ruling,
     pub session: Session,
 }
 
-// Nine axes to which no fit datagram came.
-fn no_axes() -> Axes
-    ensures { λ r. ⌜ r ≡ noAxes ⌝ }
-{
-    let axis = Axis {
-        begun: false,
-        last: 0,
-        total: 0,
-    };
-    let group = GroupAxes {
-        x: axis,
-        y: axis,
-        z: axis,
-    };
-    Axes {
-        gyro: group,
-        accelerometer: group,
-        inclinometer: group,
-    }
-}
-
 // A history without any datagram.
 fn no_history() -> History
     ensures { λ r. ⌜ r ≡ noHistory ⌝ }
 {
-    let axes = no_axes();
+    let axes = motion::no_axes();
     History {
         datagrams: Datagrams(0),
         previous: 0,
@@ -88,28 +79,28 @@ fn no_history() -> History
 }
 
 // What lies in front of the next datagram, of its counter (01, Status, doubles, gaps).
-pub fn gap_before(setup: Setup, history: History, counter: u8) -> Gap
-    ensures { λ r. ⌜ r ≡ gapNext setup history counter ⌝ }
+pub fn gap_before(rate: Rate, history: History, counter: u8) -> Gap
+    ensures { λ r. ⌜ r ≡ gapNext rate history counter ⌝ }
 {
-    motion::gap_between(setup, history.datagrams.0 == 0, history.previous, counter)
+    motion::gap_between(rate, history.datagrams.0 == 0, history.previous, counter)
 }
 
-// The history behind the next datagram, of its readings, statuses and counter (01, Totals).
+// The history behind the next datagram, of its readings, statuses and counter; `kept`: which groups keep totals (01, Totals).
 pub fn advance(
-    setup: Setup,
+    kept: [bool; 3],
     history: History,
     readings: [[i32; 3]; 3],
     statuses: [u8; 3],
     counter: u8,
 ) -> History
-    ensures { λ r. ⌜ r ≡ advanced setup history readings statuses counter ⌝ }
+    ensures { λ r. ⌜ r ≡ advanced kept history readings statuses counter ⌝ }
 {
     let handed = history.datagrams.0;
     if GREATEST_COUNT <= handed {
         return history;
     }
     let before = history.axes;
-    let after = motion::step(setup, before, readings, statuses);
+    let after = motion::step(kept, before, readings, statuses);
     History {
         datagrams: Datagrams(handed + 1),
         previous: counter,
@@ -281,8 +272,8 @@ fn axis_right(kept: bool, datagrams: u64, axis: Axis) -> bool
     let total = axis.total;
     let small = integers::is_within(total, datagrams * 8388608);
     let fits = integers::fits_reading(last);
-    let unread = integers::is_zero(last);
-    let unmoved = integers::is_zero_wide(total);
+    let unread = integers::is_zero(last as i64);
+    let unmoved = integers::is_zero(total);
     small & (fits & ((kept & begun) | (!begun & (unread & unmoved))))
 }
 
@@ -298,19 +289,19 @@ fn group_right(kept: bool, datagrams: u64, group: GroupAxes) -> bool
 }
 
 // And of the nine.
-fn axes_right(setup: Setup, datagrams: u64, axes: Axes) -> bool
+fn axes_right(kept: [bool; 3], datagrams: u64, axes: Axes) -> bool
     requires { ⌜ datagrams * 2 ^ 23 < 2 ^ 64 ⌝ }
-    ensures { λ r. ⌜ r ≡ axesRight setup datagrams axes ⌝ }
+    ensures { λ r. ⌜ r ≡ axesRightBy kept datagrams axes ⌝ }
 {
-    let kept = motion::kept_groups(setup);
     let gyro = group_right(kept[0], datagrams, axes.gyro);
     let accelerometer = group_right(kept[1], datagrams, axes.accelerometer);
     let inclinometer = group_right(kept[2], datagrams, axes.inclinometer);
     gyro & (accelerometer & inclinometer)
 }
 
-// Whether feeding doesn't turn the session down by 10.
-pub fn is_sound(session: Session) -> bool
+// Whether feeding doesn't turn down by 10 a session whose setup describes this sensor.
+fn sound_by(sensor: Sensor, session: Session) -> bool
+    requires { ⌜ (rulingOn (session .setup) ≡ Accepted) × (sensor ≡ sensorOf (session .setup)) ⌝ }
     ensures { λ r. ⌜ r ≡ isSound session ⌝ }
 {
     let setup = session.setup;
@@ -319,12 +310,10 @@ pub fn is_sound(session: Session) -> bool
     let history = session.history;
     let datagrams = history.datagrams.0;
     let axes = history.axes;
-    let answer = setup::judge(setup);
-    if !is_accepted(answer) {
-        return false;
-    }
-    let size = setup::length_of(setup);
-    if !held_right(setup.identifier, size, held, count) {
+    let row = sensor.row;
+    let units = sensor.units;
+    let size = wire::length_of(row, sensor.terminated);
+    if !held_right(sensor.identifier, size, held, count) {
         return false;
     }
     if !counts_right(
@@ -337,23 +326,49 @@ pub fn is_sound(session: Session) -> bool
     ) {
         return false;
     }
-    axes_right(setup, datagrams, axes)
+    let kept = motion::kept_groups(row, units);
+    axes_right(kept, datagrams, axes)
 }
 
-// The ruling on feeding a session a piece of so many bytes: 10, 11 or 12 turns it down (01, What is turned down).
-pub fn rule_on_piece(session: Session, length: usize) -> Ruling
-    ensures { λ r. ⌜ r ≡ pieceRuling session length ⌝ }
+// Whether feeding doesn't turn the session down by 10.
+pub fn is_sound(session: Session) -> bool
+    ensures { λ r. ⌜ r ≡ isSound session ⌝ }
 {
-    if !is_sound(session) {
-        return Ruling::Refused(10);
+    let setup = session.setup;
+    let described = setup::describe(setup);
+    match described {
+        Described::Accepted(sensor) => sound_by(sensor, session),
+        Described::Refused(number) => false,
+    }
+}
+
+// Whether a session whose setup describes this sensor may be fed a piece of so many bytes.
+fn admit_by(sensor: Sensor, session: Session, length: usize) -> Admission
+    requires { ⌜ (rulingOn (session .setup) ≡ Accepted) × (sensor ≡ sensorOf (session .setup)) ⌝ }
+    ensures { λ r. ⌜ r ≡ admissionOf session length ⌝ }
+{
+    if !sound_by(sensor, session) {
+        return Admission::Refused(10);
     }
     let setup = session.setup;
     let limits = limits_of(setup);
     if limits.piece < length {
-        return Ruling::Refused(limits.too_long);
+        return Admission::Refused(limits.too_long);
     }
     if limits.session < session.fed + (length as u64) {
-        return Ruling::Refused(12);
+        return Admission::Refused(12);
     }
-    Ruling::Accepted
+    Admission::Admitted(sensor)
+}
+
+// Whether a session may be fed a piece of so many bytes: 10, 11 or 12 turns it down (01, What is turned down).
+pub fn admit(session: Session, length: usize) -> Admission
+    ensures { λ r. ⌜ r ≡ admissionOf session length ⌝ }
+{
+    let setup = session.setup;
+    let described = setup::describe(setup);
+    match described {
+        Described::Accepted(sensor) => admit_by(sensor, session, length),
+        Described::Refused(number) => Admission::Refused(10),
+    }
 }

@@ -1,14 +1,16 @@
 -- Laws of the layouts: 01's byte counts, lengths from 18 to 65, and every part before the check.
-use Prim.Native.Nat.{ℕ, _+_, _≤_}
+use Prim.Native.Nat.{ℕ, suc, _+_, _≤_}
 use native.Mathlib.Omega.{arith}
-use mathlib.Core.Bool.{Bool, true, false, _||_, cond}
-use mathlib.Core.List.{List, [], _∷_, _++_}
+use mathlib.Core.Bool.{Bool, true, false, _&&_, _||_, cond}
+use mathlib.Core.List.{List, [], _∷_, _++_, map}
 use mathlib.Core.Path.{_≡_, refl, sym, ap, _∙_}
-use lib.Dec.{eqb, ltb}
+use lib.Dec.{eqb, ltb, leb}
 use lib.ListN.{getD, length}
 use borrow.Author.Tests.{eqb-true, lt-ltb}
 use Rattle.crc.specs.Check.{stim300}
-use Rattle.setup.specs.Layout.{Part, identifier, gyro, accelerometer, inclinometer, gyroTemperatures, accelerometerTemperatures, inclinometerTemperatures, aux, counter, latency, size, bytes, only, groupParts, temperatureParts, partsOf, Layout, layoutOf, lengthIn, Entry, table, carrying, place, carries, offset, placed}
+use Rattle.setup.specs.Layout.{Part, identifier, gyro, accelerometer, inclinometer, gyroTemperatures, accelerometerTemperatures}
+use Rattle.setup.specs.Layout.{inclinometerTemperatures, aux, counter, latency, size, bytes, only, groupParts, temperatureParts, partsOf}
+use Rattle.setup.specs.Layout.{Layout, layoutOf, lengthIn, Entry, table, R, has, carrying, place, carries, offset, placed}
 use Rattle.setup.specs.declared.Row.{Row}
 use Rattle.setup.proofs.Rows.{every-row}
 
@@ -21,6 +23,22 @@ pub table-adds-up : EachEntry (λ e. bytes (partsOf (carrying (e .carries))) ≡
 unfolding partsOf
 table-adds-up = (refl, (refl, (refl, (refl, (refl, (refl, (refl, (refl, (refl, (refl, (refl, (refl, (refl, (refl, (refl, (refl, tt))))))))))))))))
 
+-- and each has R, as every row has the gyro group
+pub table-has-rate : EachEntry (λ e. has (e .carries) R ≡ true) table
+table-has-rate = (refl, (refl, (refl, (refl, (refl, (refl, (refl, (refl, (refl, (refl, (refl, (refl, (refl, (refl, (refl, (refl, tt))))))))))))))))
+
+-- the parts of a row stand in 01's order
+abbrev rising : ℕ → List ℕ → Bool
+rising low [] = true
+rising low (n ∷ ns) = leb low n && rising (suc n) ns
+
+abbrev InOrder : Row → Type 0
+InOrder r = rising 0 (map place (partsOf r)) ≡ true
+
+pub parts-in-order : (r : Row) → InOrder r
+unfolding partsOf
+parts-in-order = every-row InOrder ((refl, refl, refl, refl), (refl, refl, refl, refl), (refl, refl, refl, refl), (refl, refl, refl, refl))
+
 -- a carried part ends at or before the end of the parts
 within-by : (b r : Bool) (n m k o : ℕ) → (b || r) ≡ true → (b ≡ true → n ≤ m) → (r ≡ true → o + n ≤ k) → cond b 0 (m + o) + n ≤ m + k
 within-by true r n m k o e f g = let h : n ≤ m = f refl in omega arith
@@ -29,7 +47,8 @@ within-by false r n m k o e f g = let h : o + n ≤ k = g e in omega arith
 -- the parts in 01's order: a part's number is its place here, so that two parts with one number are the same
 abbrev inOrder : List Part
 inOrder =
-    identifier ∷ gyro ∷ accelerometer ∷ inclinometer ∷ gyroTemperatures ∷ accelerometerTemperatures ∷ inclinometerTemperatures ∷ aux ∷ counter ∷ latency ∷ []
+    identifier ∷ gyro ∷ accelerometer ∷ inclinometer ∷ gyroTemperatures ∷ accelerometerTemperatures ∷ inclinometerTemperatures ∷
+    aux ∷ counter ∷ latency ∷ []
 
 numbered : (p : Part) → getD inOrder (place p) identifier ≡ p
 numbered identifier = refl
@@ -43,7 +62,7 @@ numbered aux = refl
 numbered counter = refl
 numbered latency = refl
 
-pub same-part : (p q : Part) → place p ≡ place q → p ≡ q
+same-part : (p q : Part) → place p ≡ place q → p ≡ q
 same-part p q e = sym (numbered p) ∙ ap (λ n. getD inOrder n identifier) e ∙ numbered q
 
 same-size : (p q : Part) → eqb (place p) (place q) ≡ true → size p ≤ size q

@@ -45,28 +45,30 @@ unfolding rowAt
 warm-aux = between (InPlace 0xAC true true) 0xAD 3 (refl, (refl, (refl, tt)))
 
 -- an identifier outside the ranges 0x90 to 0x94, 0x98 to 0x9C, 0xA5 to 0xA7 and 0xAD to 0xAF is none of the table's
-module _ (id : ℕ) (a : 0x90 ≤ id → id < 0x95 → ⊥) (b : 0x98 ≤ id → id < 0x9D → ⊥) (c : 0xA5 ≤ id → id < 0xA8 → ⊥) (d : 0xAD ≤ id → id < 0xB0 → ⊥) where
-  other : (lo hi k : ℕ) → (lo ≤ id → id < hi → ⊥) → lo ≤ k → k < hi → id ≡ k → ⊥
-  other lo hi k f p q e = f (omega arith) (omega arith)
+module _
+    (id : ℕ) (a : 0x90 ≤ id → id < 0x95 → ⊥) (b : 0x98 ≤ id → id < 0x9D → ⊥) (c : 0xA5 ≤ id → id < 0xA8 → ⊥) (d : 0xAD ≤ id → id < 0xB0 → ⊥)
+  where
+    other : (lo hi k : ℕ) → (lo ≤ id → id < hi → ⊥) → lo ≤ k → k < hi → id ≡ k → ⊥
+    other lo hi k f p q e = f (omega arith) (omega arith)
 
-  pub unlisted : rowAt id ≡ Unlisted
-  unfolding rowAt
-  unlisted =
-      simp (
-        ne-eqb id 0x90 (other 0x90 0x95 0x90 a (omega arith) (omega arith)),
-        ne-eqb id 0x91 (other 0x90 0x95 0x91 a (omega arith) (omega arith)),
-        ne-eqb id 0x92 (other 0x90 0x95 0x92 a (omega arith) (omega arith)),
-        ne-eqb id 0x93 (other 0x90 0x95 0x93 a (omega arith) (omega arith)),
-        ne-eqb id 0x94 (other 0x90 0x95 0x94 a (omega arith) (omega arith)),
-        ne-eqb id 0x98 (other 0x98 0x9D 0x98 b (omega arith) (omega arith)),
-        ne-eqb id 0x99 (other 0x98 0x9D 0x99 b (omega arith) (omega arith)),
-        ne-eqb id 0x9A (other 0x98 0x9D 0x9A b (omega arith) (omega arith)),
-        ne-eqb id 0x9B (other 0x98 0x9D 0x9B b (omega arith) (omega arith)),
-        ne-eqb id 0x9C (other 0x98 0x9D 0x9C b (omega arith) (omega arith)),
-        ne-eqb id 0xA5 (other 0xA5 0xA8 0xA5 c (omega arith) (omega arith)),
-        ne-eqb id 0xA6 (other 0xA5 0xA8 0xA6 c (omega arith) (omega arith)),
-        ne-eqb id 0xA7 (other 0xA5 0xA8 0xA7 c (omega arith) (omega arith)),
-        ne-eqb id 0xAD (other 0xAD 0xB0 0xAD d (omega arith) (omega arith)),
-        ne-eqb id 0xAE (other 0xAD 0xB0 0xAE d (omega arith) (omega arith)),
-        ne-eqb id 0xAF (other 0xAD 0xB0 0xAF d (omega arith) (omega arith)),
-      )
+    pub unlisted : rowAt id ≡ Unlisted
+    unfolding rowAt
+    unlisted =
+        simp (
+          ne-eqb id 0x90 (other 0x90 0x95 0x90 a (omega arith) (omega arith)),
+          ne-eqb id 0x91 (other 0x90 0x95 0x91 a (omega arith) (omega arith)),
+          ne-eqb id 0x92 (other 0x90 0x95 0x92 a (omega arith) (omega arith)),
+          ne-eqb id 0x93 (other 0x90 0x95 0x93 a (omega arith) (omega arith)),
+          ne-eqb id 0x94 (other 0x90 0x95 0x94 a (omega arith) (omega arith)),
+          ne-eqb id 0x98 (other 0x98 0x9D 0x98 b (omega arith) (omega arith)),
+          ne-eqb id 0x99 (other 0x98 0x9D 0x99 b (omega arith) (omega arith)),
+          ne-eqb id 0x9A (other 0x98 0x9D 0x9A b (omega arith) (omega arith)),
+          ne-eqb id 0x9B (other 0x98 0x9D 0x9B b (omega arith) (omega arith)),
+          ne-eqb id 0x9C (other 0x98 0x9D 0x9C b (omega arith) (omega arith)),
+          ne-eqb id 0xA5 (other 0xA5 0xA8 0xA5 c (omega arith) (omega arith)),
+          ne-eqb id 0xA6 (other 0xA5 0xA8 0xA6 c (omega arith) (omega arith)),
+          ne-eqb id 0xA7 (other 0xA5 0xA8 0xA7 c (omega arith) (omega arith)),
+          ne-eqb id 0xAD (other 0xAD 0xB0 0xAD d (omega arith) (omega arith)),
+          ne-eqb id 0xAE (other 0xAD 0xB0 0xAE d (omega arith) (omega arith)),
+          ne-eqb id 0xAF (other 0xAD 0xB0 0xAF d (omega arith) (omega arith)),
+        )

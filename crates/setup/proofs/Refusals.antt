@@ -7,9 +7,10 @@ use mathlib.Core.Path.{_≡_, refl, ap}
 use lib.Dec.{eqb, ltb}
 use lib.ListN.{getD}
 use borrow.Author.Tests.{eqb-true, ltb-false, not-false}
-use Rattle.integers.proofs.Ranges.{or-split}
+use Rattle.integers.proofs.Booleans.{or-split}
 use Rattle.setup.specs.Layout.{layoutOf, lengthIn, rowAt, groupsCarried}
-use Rattle.setup.specs.Setup.{rateListed, isListed, anyAbove, strayGroup, stray, setupRules, rulingOn, zeroSetup, terminated, lengthAt, lengthOf}
+use Rattle.setup.specs.Setup.{rateListed, isListed, anyAbove, strayGroup, stray, setupRules, rulingOn}
+use Rattle.setup.specs.Setup.{zeroSetup, terminated, lengthAt, lengthOf}
 use Rattle.setup.specs.declared.Row.{Row}
 use Rattle.setup.specs.declared.Listing.{Listing}
 use Rattle.setup.specs.declared.Listing.the-variants.{Listed, Unlisted}
@@ -78,7 +79,8 @@ pub none-above : (limit : ℕ) (l : List ℕ) → anyAbove limit l ≡ false →
 none-above limit l e =
     let two = or-split (ltb limit (getD l 0 0) || ltb limit (getD l 1 0)) (ltb limit (getD l 2 0)) e in
     let one = or-split (ltb limit (getD l 0 0)) (ltb limit (getD l 1 0)) (two .0) in
-    each (λ g. getD l g 0 ≤ limit) (ltb-false limit (getD l 0 0) (one .0)) (ltb-false limit (getD l 1 0) (one .1)) (ltb-false limit (getD l 2 0) (two .1))
+    each (λ g. getD l g 0 ≤ limit) (ltb-false limit (getD l 0 0) (one .0)) (ltb-false limit (getD l 1 0) (one .1))
+    (ltb-false limit (getD l 2 0) (two .1))
 
 -- 9: a group that isn't carried has unit and shift 0
 plain : (unit shift : ℕ) → strayGroup false unit shift ≡ false → (unit ≡ 0) × (shift ≡ 0)

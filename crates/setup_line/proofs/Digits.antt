@@ -9,7 +9,7 @@ use mathlib.Core.Path.{_≡_, refl, ap, _∙_}
 use lib.Dec.{leb}
 use lib.ListN.{length, getD, drop, drop-of-length-le}
 use borrow.Author.Tests.{leb-true}
-use Rattle.integers.proofs.Ranges.{and-split}
+use Rattle.integers.proofs.Booleans.{and-split}
 use Rattle.setup_line.specs.SetupLine.{isDigit, isHexDigit, digitValue, allDigits, decimalFrom}
 use Rattle.setup_line.proofs.Fields.{drop-next}
 

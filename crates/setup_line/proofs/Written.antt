@@ -6,7 +6,7 @@ use mathlib.Core.Path.{_≡_}
 use lib.Dec.{eqb, leb}
 use lib.ListN.{length, getD}
 use borrow.Author.Tests.{eqb-true, leb-true}
-use Rattle.integers.proofs.Ranges.{and-split}
+use Rattle.integers.proofs.Booleans.{and-split}
 use Rattle.setup_line.specs.SetupLine.{fieldAt, isHexDigit, allDigits, decimalWritten, identifierWritten, threeWritten, lineWritten}
 
 pub decimal-short : (f : List ℕ) → decimalWritten f ≡ true → length f ≤ 4

@@ -13,13 +13,17 @@ use lib.Seq.{take-at}
 use Rattle.integers.proofs.Booleans.{or-split}
 use Rattle.integers.proofs.Buffers.{put-front}
 use Rattle.setup.specs.Setup.{setupRules, rulingOn}
+use Rattle.setup.specs.Sensor.{sensorOf}
 use Rattle.setup.specs.declared.Setup.{Setup}
 use Rattle.setup.specs.declared.Ruling as ruling
 use Rattle.setup.proofs.Rules.{first-accepted, first-refused}
+use Rattle.setup.proofs.Sensors.{sensor-groups}
 use Rattle.motion.specs.declared.Gap.{Gap}
 use Rattle.motion.specs.declared.Totals.{Totals}
+use Rattle.motion.proofs.AcceptedSetup.{accepted-kept}
 use Rattle.text.specs.Putting.{Put, roomAnswer, roomBuffer}
-use Rattle.text.specs.TextLine.{shownBy, shownText, lineText, readingsFit, totalsWithin, outside, shownRules, shownRuling, shownAnswer, shownBuffer, lineRules, lineRuling, lineAnswer, lineBuffer}
+use Rattle.text.specs.TextLine.{shownBy, shownOf, shownText, lineText, readingsFit, totalsWithin, outside}
+use Rattle.text.specs.TextLine.{shownRules, shownRuling, shownAnswer, shownBuffer, lineRules, lineRuling, lineAnswer, lineBuffer}
 use Rattle.text.specs.declared.Shown.{Shown}
 use Rattle.text.specs.declared.Written.{Written}
 use Rattle.text.specs.declared.Written.the-variants.{Line, Refused}
@@ -83,6 +87,11 @@ module _ (b : List ℕ) (shown : Shown) (ordinal counter latency : ℕ) (gap : G
         (ap Line (p .place ∙ zero-add (length text)) ∙ q .0 ∙ room-left .0, p .bytes ∙ put-front b text l ∙ q .1 ∙ room-left .1)
 
 -- ---- the line under a setup
+
+-- the sensor that an accepted setup describes shows what the setup shows
+pub sensor-shown : (u : Setup) → rulingOn u ≡ ruling.the-variants.Accepted → shownOf (sensorOf u .row) (sensorOf u .units) ≡ shownBy u
+unfolding shownOf shownBy
+sensor-shown u e = rw (sensor-groups u e, accepted-kept u e)
 
 module _ (b : List ℕ) (setup : Setup) (ordinal counter latency : ℕ) (gap : Gap) (readings : List (List ℤ)) (statuses : List ℕ) (totals : Totals) where
   pub setup-refused : {n : ℕ} → rulingOn setup ≡ ruling.the-variants.Refused n

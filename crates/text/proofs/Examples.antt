@@ -6,7 +6,7 @@ use mathlib.Core.Path.{_≡_, refl}
 use native.Mathlib.Decide.{decLe, decLt}
 use lib.IntN.{ℤ, pos, negsuc}
 use lib.ListN.{length, replicate}
-use Rattle.setup.specs.Layout.{groupsCarried, partsAt}
+use Rattle.setup.specs.Layout.{partsOf, groupsCarried, partsAt}
 use Rattle.setup.specs.declared.Setup.{Setup}
 use Rattle.motion.specs.Totals.{groupsKept}
 use Rattle.motion.specs.declared.Gap.the-variants.{Missed}
@@ -48,11 +48,11 @@ secondLine =
     0x2C ∷ 0x2C ∷ 0x2C ∷ 0x2C ∷ 0x2C ∷ 0x2C ∷ 0x2C ∷ 0x2C ∷ 0x2C ∷ 0x2C ∷ 0x2C ∷ 0x0A ∷ []
 
 pub first-line : lineText setup 1 2 0 (Missed (record { 0 = 0 })) (readings (pos 8388600)) (0 ∷ 0 ∷ 0 ∷ []) (totals (pos 0)) ≡ firstLine
-unfolding lineText shownText shownFields shownBy groupsFields groupFields parted decimal digits digitsFrom digitsBy decLt decLe groupsCarried partsAt groupsKept
+unfolding lineText shownText shownFields shownBy groupsFields groupFields parted decimal digits digitsFrom digitsBy decLt decLe groupsCarried partsAt partsOf groupsKept
 first-line = refl
 
 pub second-line : lineText setup 2 4 0 (Missed (record { 0 = 0 })) (readings (negsuc 8388599)) (0 ∷ 0 ∷ 0 ∷ []) (totals (pos 16)) ≡ secondLine
-unfolding lineText shownText shownFields shownBy groupsFields groupFields parted decimal digits digitsFrom digitsBy decLt decLe groupsCarried partsAt groupsKept
+unfolding lineText shownText shownFields shownBy groupsFields groupFields parted decimal digits digitsFrom digitsBy decLt decLe groupsCarried partsAt partsOf groupsKept
 second-line = refl
 
 -- ---- every group carried and integrated, every number the longest of its type
@@ -68,5 +68,5 @@ fullTotals =
 
 -- 01 has no line longer than `longestLine`, and this one is as long
 pub longest-reached : length (lineText fullSetup 18446744073709551615 255 65535 (Missed (record { 0 = 18446744073709551615 })) (replicate 3 (replicate 3 (negsuc 8388607))) (255 ∷ 255 ∷ 255 ∷ []) fullTotals) ≡ longestLine
-unfolding lineText shownText shownFields shownBy groupsFields groupFields parted decimal digits digitsFrom digitsBy decLt decLe groupsCarried partsAt groupsKept
+unfolding lineText shownText shownFields shownBy groupsFields groupFields parted decimal digits digitsFrom digitsBy decLt decLe groupsCarried partsAt partsOf groupsKept
 longest-reached = refl

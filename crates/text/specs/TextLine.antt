@@ -1,17 +1,19 @@
 -- 01, The text line; and 'What is turned down': 13 and 14, after 4 to 9 for the line's setup.
-use Prim.Native.Nat.{ℕ, _^_}
+use Prim.Native.Nat.{ℕ}
 use mathlib.Core.Bool.{Bool, false, not, _&&_, _||_, cond}
 use mathlib.Core.List.{List, [], _∷_, _++_}
 use lib.Dec.{eqb, ltb}
 use lib.IntN.{ℤ, pos}
 use lib.ListN.{length, getD, drop}
 use Rattle.integers.specs.Ranges.{inReading, within}
-use Rattle.setup.specs.Layout.{groupsCarried}
+use Rattle.setup.specs.Layout.{groupsOf, groupsCarried}
 use Rattle.setup.specs.Setup.{Rule, rule, firstOf, setupRules}
 use Rattle.setup.specs.declared.Setup.{Setup}
+use Rattle.setup.specs.declared.Row.{Row}
+use Rattle.setup.specs.declared.Units.{Units}
 use Rattle.setup.specs.declared.Ruling as ruling
 use Rattle.setup.specs.declared.Ruling.{Ruling}
-use Rattle.motion.specs.Totals.{groupsKept}
+use Rattle.motion.specs.Totals.{greatestTotal, groupsKept, keptBy}
 use Rattle.motion.specs.declared.Gap.{Gap}
 use Rattle.motion.specs.declared.Gap.the-variants.{Missed, OffStep}
 use Rattle.motion.specs.declared.Total.{Total}
@@ -64,6 +66,10 @@ groupsFields carried kept readings statuses totals =
 unfoldable pub shownBy : Setup → Shown
 shownBy setup = record { carried = groupsCarried (setup .identifier); kept = groupsKept setup }
 
+-- the same of a sensor, by what its datagrams carry and the units of the groups
+unfoldable pub shownOf : Row → Units → Shown
+shownOf row units = record { carried = groupsOf row; kept = keptBy row units }
+
 -- the 25 fields: ordinal, counter, latency, missed; then those of the groups
 unfoldable pub shownFields : Shown → ℕ → ℕ → ℕ → Gap → List (List ℤ) → List ℕ → Totals → List (List ℕ)
 shownFields shown ordinal counter latency gap readings statuses totals =
@@ -99,7 +105,7 @@ readingsFit readings = rowFits (getD readings 0 []) && rowFits (getD readings 1 
 
 -- a total, those of a group, and all nine, are at most 2^53 in size
 abbrev pub totalWithin : Total → Bool
-totalWithin t = within (2 ^ 53) (t .steps)
+totalWithin t = within greatestTotal (t .steps)
 
 abbrev pub groupWithin : GroupTotals → Bool
 groupWithin t = totalWithin (t .x) && totalWithin (t .y) && totalWithin (t .z)

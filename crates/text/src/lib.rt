@@ -5,13 +5,17 @@ ghost use Prim.Native.Nat.{_+_, _<_, _≤_};
 ghost use lib.ListN.{length};
 ghost use Rattle.text.specs.Decimal.{digits, decimal, lastThree};
 ghost use Rattle.text.specs.Putting.{Put, behind, headingText, roomAnswer, roomBuffer};
-ghost use Rattle.text.specs.TextLine.{shownIf, missedField, axisFields, totalField, totalFields, groupFields, groupsFields, shownBy, shownText, rowFits, readingsFit, totalWithin, groupWithin, totalsWithin, outside, shownAnswer, shownBuffer, lineAnswer, lineBuffer, longestLine};
+ghost use Rattle.text.specs.TextLine.{shownIf, missedField, axisFields, totalField, totalFields, groupFields, groupsFields, shownOf, shownText};
+ghost use Rattle.text.specs.TextLine.{rowFits, readingsFit, totalWithin, groupWithin, totalsWithin, outside};
+ghost use Rattle.text.specs.TextLine.{shownAnswer, shownBuffer, lineAnswer, lineBuffer, longestLine};
 use motion::Gap;
 use motion::GroupTotals;
 use motion::Total;
 use motion::Totals;
-use setup::Ruling;
+use setup::Described;
+use setup::Row;
 use setup::Setup;
+use setup::Units;
 
 // The bytes of the line that was written, or the number that refused it.
 pub enum Written {
@@ -336,12 +340,12 @@ pub fn longest_line() -> usize
     307
 }
 
-// What a setup shows.
-pub fn shown_by(setup: Setup) -> Shown
-    ensures { λ r. ⌜ r ≡ shownBy setup ⌝ }
+// What is shown of a sensor, by what its datagrams carry and the units of the groups.
+pub fn shown_of(row: Row, units: Units) -> Shown
+    ensures { λ r. ⌜ r ≡ shownOf row units ⌝ }
 {
-    let carried = setup::groups_carried(setup.identifier);
-    let kept = motion::kept_groups(setup);
+    let carried = [true, row.acceleration, row.inclination];
+    let kept = motion::kept_groups(row, units);
     Shown {
         carried: carried,
         kept: kept,
@@ -391,19 +395,24 @@ pub fn write_line(
 ) -> Written
     ensures { λ r. ⌜ r ≡ lineAnswer (now (buffer .entry)) setup ordinal counter latency gap readings statuses totals ⌝ ∗ ⌜ now (buffer .exit) ≡ lineBuffer (now (buffer .entry)) setup ordinal counter latency gap readings statuses totals ⌝ }
 {
-    let ruling = setup::judge(setup);
-    if let Ruling::Refused(number) = ruling {
-        return Written::Refused(number);
+    let described = setup::describe(setup);
+    match described {
+        Described::Accepted(sensor) => {
+            let row = sensor.row;
+            let units = sensor.units;
+            let shown = shown_of(row, units);
+            write_shown(
+                buffer,
+                shown,
+                ordinal,
+                counter,
+                latency,
+                gap,
+                readings,
+                statuses,
+                totals,
+            )
+        }
+        Described::Refused(number) => Written::Refused(number),
     }
-    write_shown(
-        buffer,
-        shown_by(setup),
-        ordinal,
-        counter,
-        latency,
-        gap,
-        readings,
-        statuses,
-        totals,
-    )
 }

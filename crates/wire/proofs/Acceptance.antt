@@ -9,7 +9,7 @@ use lib.ListN.{length, getD, take, drop, length-drop, drop-of-length-le}
 use lib.Seq.{take-all}
 use borrow.Author.Tests.{eqb-true, eq-eqb, leb-true, le-leb}
 use Rattle.integers.specs.Bytes.{bigEndian}
-use Rattle.integers.proofs.Ranges.{and-split}
+use Rattle.integers.proofs.Booleans.{and-split}
 use Rattle.crc.specs.Check.{stim300, check32}
 use Rattle.setup.specs.Layout.{bytes, partsOf, Layout, layoutOf, lengthIn, rowAt}
 use Rattle.setup.specs.Setup.{rulingOn, terminated, lengthOf}
@@ -25,7 +25,29 @@ use Rattle.setup.proofs.Sensors.{sensor-row}
 use Rattle.wire.specs.Acceptable.{same, checkRight, endingRight, acceptableIn, acceptableAt, acceptable}
 use Rattle.wire.proofs.FieldPlaces.{window-within, two-bytes, four-bytes}
 
--- what an acceptable list of a setup is known by
+-- what an acceptable list of an identifier and a layout is known by
+pub record Right (i : ℕ) (l : Layout) (s : List ℕ) : Type 0 where
+  pub long : length s ≡ lengthIn l
+  pub first : getD s 0 0 ≡ i
+  pub ending : endingRight l s ≡ true
+  pub check : checkRight l s ≡ true
+
+pub right : (i : ℕ) (l : Layout) (s : List ℕ) → acceptableIn i l s ≡ true → Right i l s
+unfolding acceptableIn
+right i l s e =
+    let long = eqb (length s) (lengthIn l) in
+    let first = eqb (getD s 0 0) i in
+    let third = and-split (long && first && endingRight l s) (checkRight l s) e in
+    let second = and-split (long && first) (endingRight l s) (third .0) in
+    let both = and-split long first (second .0) in
+    record {
+      long = eqb-true (length s) (lengthIn l) (both .0);
+      first = eqb-true (getD s 0 0) i (both .1);
+      ending = second .1;
+      check = third .1;
+    }
+
+-- and one of a setup
 pub record Facts (u : Setup) (s : List ℕ) : Type 0 where
   pub row : Row
   pub listed : rowAt (u .identifier) ≡ Listed row
@@ -43,26 +65,22 @@ module _ (u : Setup) (s : List ℕ) where
   row-acceptable e h = rw (e, le-leb (u .termination) 1 h)
 
   pub accepted : acceptable u s ≡ true → Facts u s
-  unfolding acceptable acceptableIn
+  unfolding acceptable
   accepted = by (rowAt (u .identifier)) refl
     where
       by : (l : Listing) → rowAt (u .identifier) ≡ l → acceptableAt l u s ≡ true → Facts u s
       by (Listed r) listed e =
           let l = layoutOf r (terminated u) in
-          let long = eqb (length s) (lengthIn l) in
-          let first = eqb (getD s 0 0) (u .identifier) in
           let both = and-split (leb (u .termination) 1) (acceptableIn (u .identifier) l s) e in
-          let fourth = and-split (long && first && endingRight l s) (checkRight l s) (both .1) in
-          let third = and-split (long && first) (endingRight l s) (fourth .0) in
-          let second = and-split long first (third .0) in
+          let k = right (u .identifier) l s (both .1) in
           record {
             row = r;
             listed = listed;
             termination = leb-true (u .termination) 1 (both .0);
-            long = eqb-true (length s) (lengthIn l) (second .0) ∙ sym (refusals.listed-length u listed);
-            first = eqb-true (getD s 0 0) (u .identifier) (second .1);
-            ending = third .1;
-            check = fourth .1;
+            long = k .long ∙ sym (refusals.listed-length u listed);
+            first = k .first;
+            ending = k .ending;
+            check = k .check;
           }
       by Unlisted listed e = let z : _≡_ {A = ℕ} 0 1 = cc in absurd (omega arith)
 
@@ -105,9 +123,9 @@ pub two-left : (s : List ℕ) (n : ℕ) → length s ≡ n + 2 → drop n s ≡ 
 two-left s n e =
     sym (take-all 2 (drop n s) (omega (arith, length-drop n s))) ∙ sym (window-within 2 n s (omega arith)) ∙ two-bytes n s
 
-and-true : (a b : Bool) → (a && (b && true)) ≡ (a && b)
-and-true a true = refl
-and-true a false = refl
+last-true : (a b : Bool) → (a && (b && true)) ≡ (a && b)
+last-true a true = refl
+last-true a false = refl
 
 module _ (r : Row) (s : List ℕ) where
   -- the ending stands where a datagram without one ends
@@ -118,16 +136,16 @@ module _ (r : Row) (s : List ℕ) where
   ending-bytes e =
       let n = lengthIn (layoutOf r false) in
       let h : bytes (partsOf r) + stim300 .width / 8 ≡ n = omega arith in
-      ap (λ bs. same bs (0x0D ∷ 0x0A ∷ [])) (ap (λ k. drop k s) h ∙ two-left s n (omega arith)) ∙ and-true (eqb (getD s n 0) 0x0D) (eqb (getD s (n + 1) 0) 0x0A)
+      ap (λ bs. same bs (0x0D ∷ 0x0A ∷ [])) (ap (λ k. drop k s) h ∙ two-left s n (omega arith))
+      ∙ last-true (eqb (getD s n 0) 0x0D) (eqb (getD s (n + 1) 0) 0x0A)
 
   pub ending-none : length s ≡ lengthIn (layoutOf r false) → endingRight (layoutOf r false) s ≡ true
   unfolding endingRight
   ending-none e = let h : length s ≤ bytes (partsOf r) + stim300 .width / 8 = omega arith in rw (drop-of-length-le s h)
 
-  pub check-bytes : bytes (partsOf r) + 4 ≤ length s
+  pub check-bytes : let n = bytes (partsOf r) in n + 4 ≤ length s
       → checkRight (layoutOf r false) s
-      ≡ eqb (bigEndian (getD s (bytes (partsOf r)) 0 ∷ getD s (bytes (partsOf r) + 1) 0 ∷ getD s (bytes (partsOf r) + 2) 0 ∷ getD s (bytes (partsOf r) + 3) 0 ∷ []))
-      (check32 (take (bytes (partsOf r)) s))
+      ≡ eqb (bigEndian (getD s n 0 ∷ getD s (n + 1) 0 ∷ getD s (n + 2) 0 ∷ getD s (n + 3) 0 ∷ [])) (check32 (take n s))
   unfolding checkRight stim300 check32
   check-bytes h =
       let n = bytes (partsOf r) in
@@ -140,7 +158,10 @@ in-order true true false d = refl
 in-order true true true d = refl
 
 pub tested : (i : ℕ) (r : Row) (t : Bool) (s : List ℕ)
-    → acceptableIn i (layoutOf r t) s
-    ≡ (eqb (length s) (lengthIn (layoutOf r t)) && (not (not (eqb (getD s 0 0) i) || not (endingRight (layoutOf r t) s)) && checkRight (layoutOf r false) s))
+    → let l = layoutOf r t in
+    acceptableIn i l s
+    ≡ (eqb (length s) (lengthIn l) && (not (not (eqb (getD s 0 0) i) || not (endingRight l s)) && checkRight (layoutOf r false) s))
 unfolding acceptableIn checkRight
-tested i r t s = in-order (eqb (length s) (lengthIn (layoutOf r t))) (eqb (getD s 0 0) i) (endingRight (layoutOf r t) s) (checkRight (layoutOf r false) s)
+tested i r t s =
+    let l = layoutOf r t in
+    in-order (eqb (length s) (lengthIn l)) (eqb (getD s 0 0) i) (endingRight l s) (checkRight (layoutOf r false) s)

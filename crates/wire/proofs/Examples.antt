@@ -45,6 +45,7 @@ second =
     0x91 ∷ 0x00 ∷ 0x00 ∷ 0x00 ∷ 0x00 ∷ 0x00 ∷ 0x00 ∷ 0x00 ∷ 0x00 ∷ 0x00 ∷ 0xFF ∷ 0x00 ∷ 0x00 ∷ 0x01 ∷ 0x00 ∷ 0x00 ∷ 0x00 ∷ 0x00 ∷ 0x00 ∷ 0x00 ∷ 0x00 ∷
     0x02 ∷ 0x00 ∷ 0x00 ∷ []
 
-pub status-apart : (fieldsOf 0x91 second .readings ≡ zeroAxes ∷ (pos 1 ∷ pos 0 ∷ pos 0 ∷ []) ∷ zeroAxes ∷ []) × (fieldsOf 0x91 second .statuses ≡ 0xFF ∷ 0 ∷ 0 ∷ [])
+pub status-apart : (fieldsOf 0x91 second .readings ≡ zeroAxes ∷ (pos 1 ∷ pos 0 ∷ pos 0 ∷ []) ∷ zeroAxes ∷ [])
+    × (fieldsOf 0x91 second .statuses ≡ 0xFF ∷ 0 ∷ 0 ∷ [])
 unfolding fieldsOf fieldsOfPart partsAt partsOf signedBytes twosComplement bigEndian
 status-apart = (refl, refl)

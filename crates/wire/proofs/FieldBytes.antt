@@ -8,7 +8,8 @@ use mathlib.Core.Path.{_≡_, refl, ap, _∙_}
 use lib.IntN.{ℤ, pos}
 use lib.ListN.{length, getD, take}
 use Rattle.integers.specs.Bytes.{bigEndian, twosComplement, signedBytes}
-use Rattle.setup.specs.Layout.{Part, gyro, accelerometer, inclinometer, gyroTemperatures, accelerometerTemperatures, inclinometerTemperatures, aux, counter, latency, widths, sum, partsOf, partsAt, carries, offset, placed, rowAt}
+use Rattle.setup.specs.Layout.{Part, gyro, accelerometer, inclinometer, gyroTemperatures, accelerometerTemperatures, inclinometerTemperatures, aux}
+use Rattle.setup.specs.Layout.{counter, latency, widths, sum, partsOf, partsAt, carries, offset, placed, rowAt}
 use Rattle.setup.specs.Setup.{rulingOn}
 use Rattle.setup.specs.Sensor.{sensorOf}
 use Rattle.setup.specs.declared.Row.{Row}
@@ -17,7 +18,8 @@ use Rattle.setup.specs.declared.Setup.{Setup}
 use Rattle.setup.specs.declared.Ruling.the-variants as ruling
 use Rattle.setup.proofs.Rows.{listed-parts}
 use Rattle.setup.proofs.Sensors.{sensor-row}
-use Rattle.wire.specs.Fields.{groups, temperatureSets, window, cut, fieldsOfPart, signedField, unsignedField, axes, contents, contentsOf, fieldsOf}
+use Rattle.wire.specs.Fields.{groups, temperatureSets, window, cut, fieldsOfPart, signedField, unsignedField, axes, contents, contentsOf}
+use Rattle.wire.specs.Fields.{fieldsOf}
 use Rattle.wire.proofs.FieldPlaces.{cut-field, one-byte}
 
 -- the fields of a listed identifier are those of its row; so of an accepted setup they are those of its sensor's

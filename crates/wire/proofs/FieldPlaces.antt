@@ -64,7 +64,8 @@ cut-field (w ∷ ws) (suc k) at s h =
 
 -- ---- by places
 
-pub fields-placed : (r : Row) (s : List ℕ) (p : Part) → eqb (place p) 0 ≡ false → fieldsOfPart (partsOf r) s p ≡ fieldsAt (widths p) (placed (partsOf r) p) s
+pub fields-placed : (r : Row) (s : List ℕ) (p : Part) → eqb (place p) 0 ≡ false
+    → fieldsOfPart (partsOf r) s p ≡ fieldsAt (widths p) (placed (partsOf r) p) s
 unfolding fieldsOfPart fieldsAt
 fields-placed r s p e = rw (carried-place r p e) (by (carries (partsOf r) p))
   where
@@ -74,11 +75,13 @@ fields-placed r s p e = rw (carried-place r p e) (by (carries (partsOf r) p))
 
 -- X, Y and Z of w bytes each
 pub axes-placed : (w at : ℕ) (s : List ℕ) → 0 < at
-    → axes (fieldsAt (w ∷ w ∷ w ∷ 1 ∷ []) at s) ≡ signedBytes (window w at s) ∷ signedBytes (window w (at + w) s) ∷ signedBytes (window w (at + 2 * w) s) ∷ []
+    → axes (fieldsAt (w ∷ w ∷ w ∷ 1 ∷ []) at s)
+    ≡ signedBytes (window w at s) ∷ signedBytes (window w (at + w) s) ∷ signedBytes (window w (at + 2 * w) s) ∷ []
 unfolding fieldsAt
 axes-placed w at s h = let e : at + 2 * w ≡ at + w + w = omega arith in rw (lt-ltb 0 at h, e)
 
-byte-at-place : (ws : List ℕ) (k at : ℕ) (s : List ℕ) → k < length ws → getD ws k 0 ≡ 1 → unsignedField (fieldsAt ws at s) k ≡ byteAt (sum (take k ws)) at s
+byte-at-place : (ws : List ℕ) (k at : ℕ) (s : List ℕ) → k < length ws → getD ws k 0 ≡ 1
+    → unsignedField (fieldsAt ws at s) k ≡ byteAt (sum (take k ws)) at s
 unfolding fieldsAt byteAt bigEndian
 byte-at-place ws k at s h e = by (ltb 0 at)
   where

@@ -11,7 +11,8 @@ use Rattle.integers.specs.Bytes.{AllBytes, bigEndian, signedBytes}
 use Rattle.integers.proofs.Parts.{posPart, negPart}
 use Rattle.integers.proofs.Bytes.{bytes-nil, bigEndian-below, signedBytes-range}
 use Rattle.integers.proofs.Folding.{InRange}
-use Rattle.setup.specs.Layout.{Part, gyro, accelerometer, inclinometer, gyroTemperatures, accelerometerTemperatures, inclinometerTemperatures, aux, counter, latency, widths, partsAt, carries, offset}
+use Rattle.setup.specs.Layout.{Part, gyro, accelerometer, inclinometer, gyroTemperatures, accelerometerTemperatures, inclinometerTemperatures, aux}
+use Rattle.setup.specs.Layout.{counter, latency, widths, partsAt, carries, offset}
 use Rattle.wire.proofs.FieldPlaces.{window-length, window-bytes}
 use Rattle.wire.specs.Fields.{Contents, cut, fieldsOfPart, signedField, unsignedField, axes, fieldsOf}
 
@@ -67,13 +68,15 @@ module _ (ps : List Part) (s : List ℕ) (h : AllBytes s) where
 
   group-range : (p : Part) → widths p ≡ 3 ∷ 3 ∷ 3 ∷ 1 ∷ [] → (a : ℕ) → InRange (getD (axes (fieldsOfPart ps s p)) a (pos 0))
   group-range p e =
-      let at : (k : ℕ) → getD (widths p) k 0 ≡ 3 → InRange (signedField (fieldsOfPart ps s p) k) = λ k d. reading-narrow (getD (fieldsOfPart ps s p) k []) (rw d at (field-narrow p k)) in
+      let at : (k : ℕ) → getD (widths p) k 0 ≡ 3 → InRange (signedField (fieldsOfPart ps s p) k) =
+      λ k d. reading-narrow (getD (fieldsOfPart ps s p) k []) (rw d at (field-narrow p k)) in
       at-three InRange (signedField (fieldsOfPart ps s p) 0) (signedField (fieldsOfPart ps s p) 1) (signedField (fieldsOfPart ps s p) 2) (pos 0)
       (at 0 (rw e)) (at 1 (rw e)) (at 2 (rw e)) (record { above = omega arith; below = omega arith })
 
   temperatures-range : (p : Part) → widths p ≡ 2 ∷ 2 ∷ 2 ∷ 1 ∷ [] → (a : ℕ) → InTemperature (getD (axes (fieldsOfPart ps s p)) a (pos 0))
   temperatures-range p e =
-      let at : (k : ℕ) → getD (widths p) k 0 ≡ 2 → InTemperature (signedField (fieldsOfPart ps s p) k) = λ k d. temperature-narrow (getD (fieldsOfPart ps s p) k []) (rw d at (field-narrow p k)) in
+      let at : (k : ℕ) → getD (widths p) k 0 ≡ 2 → InTemperature (signedField (fieldsOfPart ps s p) k) =
+      λ k d. temperature-narrow (getD (fieldsOfPart ps s p) k []) (rw d at (field-narrow p k)) in
       at-three InTemperature (signedField (fieldsOfPart ps s p) 0) (signedField (fieldsOfPart ps s p) 1) (signedField (fieldsOfPart ps s p) 2) (pos 0)
       (at 0 (rw e)) (at 1 (rw e)) (at 2 (rw e)) (record { above = omega arith; below = omega arith })
 

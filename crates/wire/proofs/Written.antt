@@ -11,7 +11,7 @@ use lib.Seq.{length-take-le, drop-cons, take-at, drop-at, drop-drop}
 use borrow.Author.Tests.{eq-eqb, eqb-true}
 use Rattle.integers.specs.Bytes.{AllBytes, bigEndian}
 use Rattle.integers.proofs.Bytes.{bytes-nil, bytes-cons, bytes-append, bytes-take, bytes-drop, bigEndian-injective}
-use Rattle.integers.proofs.Ranges.{and-split}
+use Rattle.integers.proofs.Booleans.{and-split}
 use Rattle.crc.specs.Check.{stim300, check32}
 use Rattle.crc.proofs.Checks.{check32-lt}
 use Rattle.setup.specs.Layout.{bytes, partsOf, Layout, layoutOf, lengthIn, rowAt}
@@ -99,7 +99,15 @@ module _ (u : Setup) (r : Row) (listed : rowAt (u .identifier) ≡ Listed r) (te
     unfolding written
     written-acceptable =
         accepts u (written (u .identifier) laid body)
-        (record { row = r; listed = listed; termination = termination; long = written-length; first = refl; ending = written-ending; check = written-check })
+        (record {
+          row = r;
+          listed = listed;
+          termination = termination;
+          long = written-length;
+          first = refl;
+          ending = written-ending;
+          check = written-check;
+        })
 
     pub written-bytes : AllBytes body → AllBytes (written (u .identifier) laid body)
     unfolding written
@@ -138,7 +146,9 @@ module _ (u : Setup) (r : Row) (listed : rowAt (u .identifier) ≡ Listed r) (te
         bigEndian-injective (take 4 (drop n s)) (fourBytes (check32 (take n s))) (bytes-take 4 (bytes-drop n bytes-only))
         (four-bytes (check32 (take n s)) (check32-lt (take n s) (bytes-take n bytes-only)))
         (length-take-le 4 (drop n s) (omega (arith, length-drop n s)))
-        (eqb-true (bigEndian (take 4 (drop n s))) (check32 (take n s)) (subst (λ x. checkRight (layoutOf x (terminated u)) s ≡ true) row-same (known .check)) ∙ sym (four-value (check32 (take n s))))
+        (eqb-true (bigEndian (take 4 (drop n s))) (check32 (take n s))
+        (subst (λ x. checkRight (layoutOf x (terminated u)) s ≡ true) row-same (known .check))
+        ∙ sym (four-value (check32 (take n s))))
 
     ending-same : drop (n + 4) s ≡ laid .ending
     unfolding endingRight stim300

@@ -5,7 +5,8 @@ use mathlib.Core.List.{List, [], _∷_, map}
 use lib.IntN.{ℤ}
 use lib.ListN.{getD}
 use Rattle.integers.specs.Bytes.{bigEndian, signedBytes}
-use Rattle.setup.specs.Layout.{Part, gyro, accelerometer, inclinometer, gyroTemperatures, accelerometerTemperatures, inclinometerTemperatures, aux, counter, latency, widths, partsOf, partsAt, carries, offset}
+use Rattle.setup.specs.Layout.{Part, gyro, accelerometer, inclinometer, gyroTemperatures, accelerometerTemperatures, inclinometerTemperatures, aux}
+use Rattle.setup.specs.Layout.{counter, latency, widths, partsOf, partsAt, carries, offset}
 use Rattle.setup.specs.declared.Row.{Row}
 use Rattle.wire.specs.declared.Fields.{Fields}
 

@@ -156,13 +156,14 @@ pub fn is_acceptable(identifier: u8, row: Row, terminated: bool, s: &[u8]) -> bo
     check_right(row, s)
 }
 
+// Places lie within the longest datagram: 59 bytes before the check, 65 in all. Bytes beyond the end of `s` read as 0.
 fn byte_or_zero(s: &[u8], at: usize) -> u8
     ensures { λ r. ⌜ r ≡ getD (now (s .entry)) at 0 ⌝ }
 {
     if at < s.len() { s[at] } else { 0 }
 }
 
-// Three bytes of a reading. Bytes beyond the end read as 0, here and below; where there are none, one test is enough.
+// Three bytes of a reading. Where they are all there, one test is enough.
 fn reading_at(s: &[u8], at: usize) -> i32
     requires { ⌜ at ≤ 65 ⌝ }
     ensures { λ r. ⌜ r ≡ signedBytes (window 3 at (now (s .entry))) ⌝ }

@@ -51,11 +51,11 @@ unfolding datagramWith
 returns c =
     let s = c .before .before .before in
     let v = s .before .before in
-    let start = v .before .before .before .before .before in
+    let start = v .before .before .before .before .before .before .before in
     rw (
-      v .before .before .before .flagged-channels .ensures,
-      v .before .before .flagged-channels2 .ensures,
-      v .before .flagged-channels3 .ensures,
+      v .before .before .before .before .before .flagged-channels .ensures,
+      v .before .before .before .before .flagged-channels2 .ensures,
+      v .before .before .before .flagged-channels3 .ensures,
       v .group-values .ensures,
       s .before .totals-of .ensures,
       s .total-doubles .ensures,

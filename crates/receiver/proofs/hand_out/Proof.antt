@@ -1,5 +1,7 @@
 -- `receiver::hand_out` meets its contract. Assumes nothing.
+use mathlib.Core.Path.{ap, _∙_}
 use native.Mathlib.Omega.{arith}
+use Rattle.setup.specs.declared.Sensor.{Sensor}
 use Rattle.session.proofs.HistoryLaws.{advanced-next}
 use Rattle.receiver.specs.Feed.{historyAfter, tell}
 use Rattle.receiver.specs.CallParts.{replyAfter}
@@ -17,6 +19,9 @@ fields-of-requires c κs = search needs
 gap-before-requires : tie.Need-gap-before-requires
 gap-before-requires c κs = search needs
 
+kept-groups-requires : tie.Need-kept-groups-requires
+kept-groups-requires c κs = search needs
+
 advance-requires : tie.Need-advance-requires
 advance-requires c κs = search needs
 
@@ -28,7 +33,7 @@ slice-aggregate-session-behind c = search needs
 
 session-behind-requires : tie.Need-session-behind-requires
 session-behind-requires c κs =
-    let s = c .before .before .before .before .before .before .before .before .before .before .before in
+    let s = c .before .before .before .before .before .before .before .before .before .before .before .before .before in
     (s .pre .0, s .pre .1, omega arith)
 
 returns : tie.Need-returns
@@ -36,18 +41,22 @@ unfolding replyAfter historyAfter tell
 returns c =
     let d = c .before .before in
     let h = d .before .before in
-    let f = h .before .before .before in
-    let s = c .before .before .before .before .before .before .before .before .before .before .before .before in
+    let k = h .before in
+    let g = k .before in
+    let f = g .before .before in
+    let s = c .before .before .before .before .before .before .before .before .before .before .before .before .before .before in
     let a = s .args in
     rw (
+      ← s .pre .2,
       c .session-behind .ensures,
       d .datagram-of .ensures,
       h .advance .ensures,
-      advanced-next (a .session .setup) (a .session .history) _ _ _ (s .pre .0 .datagrams),
-      h .before .gap-before .ensures,
+      advanced-next _ (a .session .history) _ _ _ (s .pre .0 .datagrams),
+      k .kept-groups .ensures,
+      g .gap-before .ensures,
       f .fields-of .ensures,
       f .before .readings .ensures,
-      contents-read (a .session .setup .identifier) (a .d .now),
+      contents-read (a .sensor .row) (a .d .now),
     )
 
 pub hand-out-spec : {M : Type 1} → statement M
@@ -57,6 +66,7 @@ hand-out-spec =
     readings-requires
     fields-of-requires
     gap-before-requires
+    kept-groups-requires
     advance-requires
     datagram-of-requires
     slice-aggregate-session-behind

@@ -6,13 +6,14 @@ use native.Mathlib.Omega.{arith}
 use lib.ListN.{length, take, drop, length-append, length-drop}
 use lib.Seq.{length-take-le, take-all}
 use Rattle.setup.proofs.Refusals.{accepted-length}
-use Rattle.scan.specs.Scan.{first, later}
-use Rattle.search.specs.Search.{verdictOf, placeOf}
+use Rattle.scan.specs.Scan.{Verdict, first, later}
+use Rattle.search.specs.Search.{verdictOf, verdictIn, placeOf}
 use Rattle.search.proofs.Places.{to-end, part-of, IsComplete, IsUndecided, complete-length, found-complete, found-undecided}
 use Rattle.session.specs.Session.{heldBytes}
 use Rattle.receiver.specs.CallParts.{replyAtOnce}
 use Rattle.receiver.proofs.Joining.{complete-joined, complete-taken, undecided-joined}
 use Rattle.session.proofs.Padding.{padded-front}
+use Rattle.receiver.proofs.BySetup.{sensor-verdict}
 use Rattle.receiver.proofs.CallParts.{reply-found, reply-held, room-less}
 use borrow.Author.Needs.{needs}
 use Rattle.receiver.proofs.scan_held.Statement.{statement}
@@ -32,48 +33,48 @@ held-count : (c : tie.Start) → length (heldBytes (c .args .session)) ≡ c .ar
 held-count c = length-take-le (c .args .session .count) (c .args .session .held) (count-within c)
 
 -- the part of the piece that is searched with the bytes held
-part-within : (c : tie.After-least) → c .least .result ≤ length (c .before .before .before .before .args .piece .now)
+part-within : (c : tie.After-least) → c .least .result ≤ length (c .before .before .before .args .piece .now)
 part-within c = omega (arith, c .least .ensures)
 
 front-length :
     (c : tie.After-least)
-    → let a = c .before .before .before .before .args in
+    → let a = c .before .before .before .args in
     length (heldBytes (a .session) ++ take (c .least .result) (a .piece .now)) ≡ a .session .count + c .least .result
 front-length c =
-    let a = c .before .before .before .before .args in
+    let a = c .before .before .before .args in
     omega (
       arith,
       length-append (heldBytes (a .session)) (take (c .least .result) (a .piece .now)),
-      held-count (c .before .before .before .before),
+      held-count (c .before .before .before),
       length-take-le (c .least .result) (a .piece .now) (part-within c),
     )
 
-front-most : (c : tie.After-least) → c .before .before .before .before .args .session .count + c .least .result ≤ 128
+front-most : (c : tie.After-least) → c .before .before .before .args .session .count + c .least .result ≤ 128
 front-most c =
-    let s = c .before .before .before .before in
+    let s = c .before .before .before in
     omega (arith, c .least .ensures, longest-most s, s .pre .2)
 
 -- the window is the bytes held and that part
 window-is :
     (c : tie.After-join)
-    → let a = c .before .before .before .before .before .before .before .args in
+    → let a = c .before .before .before .before .before .before .args in
     let m = c .before .before .before .least .result in
     take (a .session .count + m) (c .join .result) ≡ heldBytes (a .session) ++ take m (a .piece .now)
 window-is c =
-    let a = c .before .before .before .before .before .before .before .args in
+    let a = c .before .before .before .before .before .before .args in
     let m = c .before .before .before .least .result in
     ap (take (a .session .count + m)) (c .join .ensures)
     ∙ padded-front 128 (a .session .count + m) (heldBytes (a .session) ++ take m (a .piece .now)) (front-length (c .before .before .before))
 
 window-length :
     (c : tie.After-join)
-    → let n = c .before .before .before .before .before .before .before .args .session .count + c .before .before .before .least .result in length (take n (c .join .result)) ≡ n
+    → let n = c .before .before .before .before .before .before .args .session .count + c .before .before .before .least .result in length (take n (c .join .result)) ≡ n
 window-length c = ap length (window-is c) ∙ front-length (c .before .before .before)
 
 -- the bytes held and that part of the piece
 front : (c : tie.After-least) → List ℕ
 front c =
-    let a = c .before .before .before .before .args in
+    let a = c .before .before .before .args in
     heldBytes (a .session) ++ take (c .least .result) (a .piece .now)
 
 -- what find returns: where the datagram begins and its size
@@ -87,28 +88,30 @@ size c = c .before .at .given .0 .1 .0
 complete-arm :
     (c : tie.After-known-told)
     → let l = c .before .before .before .before .before .before .before .before in
-    IsComplete (l .before .before .before .before .args .session .setup) (front l) (place c) (size c)
+    IsComplete (l .before .before .before .args .session .setup) (front l) (place c) (size c)
 unfolding front place size
 complete-arm c =
     let l = c .before .before .before .before .before .before .before .before in
-    let s = l .before .before .before .before in
+    let s = l .before .before .before in
     let u = s .args .session .setup in
     found-complete u (s .pre .0) (front l) (place c)
-    (ap (λ (l : List ℕ). placeOf (first (verdictOf u) l)) (sym (window-is (c .before .before .before .before .before)))
+    (ap (λ (v : List ℕ → Verdict). placeOf (first v (front l))) (sym (sensor-verdict u (s .pre .0) (s .args .sensor) (s .pre .4)))
+    ∙ ap (λ (l : List ℕ). placeOf (first (verdictIn (s .args .sensor)) l)) (sym (window-is (c .before .before .before .before .before)))
     ∙ sym (c .before .before .before .find .ensures)
     ∙ c .before .at .given .1)
 
 undecided-arm :
     (c : tie.After-known-told2)
     → let l = c .before .before .before .before .before .before .before .before in
-    IsUndecided (l .before .before .before .before .args .session .setup) (front l) (c .before .at2 .given .0 .0)
+    IsUndecided (l .before .before .before .args .session .setup) (front l) (c .before .at2 .given .0 .0)
 unfolding front
 undecided-arm c =
     let l = c .before .before .before .before .before .before .before .before in
-    let s = l .before .before .before .before in
+    let s = l .before .before .before in
     let u = s .args .session .setup in
     found-undecided u (s .pre .0) (front l) (c .before .at2 .given .0 .0)
-    (ap (λ (l : List ℕ). placeOf (first (verdictOf u) l)) (sym (window-is (c .before .before .before .before .before)))
+    (ap (λ (v : List ℕ → Verdict). placeOf (first v (front l))) (sym (sensor-verdict u (s .pre .0) (s .args .sensor) (s .pre .4)))
+    ∙ ap (λ (l : List ℕ). placeOf (first (verdictIn (s .args .sensor)) l)) (sym (window-is (c .before .before .before .before .before)))
     ∙ sym (c .before .before .before .find .ensures)
     ∙ c .before .at2 .given .1)
 
@@ -116,7 +119,7 @@ undecided-arm c =
 complete-within :
     (c : tie.After-known-told)
     → let l = c .before .before .before .before .before .before .before .before in
-    place c + size c ≤ l .before .before .before .before .args .session .count + l .least .result
+    place c + size c ≤ l .before .before .before .args .session .count + l .least .result
 unfolding front
 complete-within c =
     omega (arith, complete-arm c .within, front-length (c .before .before .before .before .before .before .before .before))
@@ -124,16 +127,16 @@ complete-within c =
 -- where all datagrams have one length, one that is found there ends behind the bytes held
 ends-behind :
     (c : tie.After-known-told)
-    → let s = c .before .before .before .before .before .before .before .before .before .before .before .before in
+    → let s = c .before .before .before .before .before .before .before .before .before .before .before in
     s .args .session .count ≤ place c + size c
 ends-behind c =
-    let s = c .before .before .before .before .before .before .before .before .before .before .before .before in
+    let s = c .before .before .before .before .before .before .before .before .before .before .before in
     omega (arith, complete-length (complete-arm c), s .pre .1, s .pre .2)
 
 undecided-within :
     (c : tie.After-known-told2)
     → let l = c .before .before .before .before .before .before .before .before in
-    c .before .at2 .given .0 .0 ≤ l .before .before .before .before .args .session .count + l .least .result
+    c .before .at2 .given .0 .0 ≤ l .before .before .before .args .session .count + l .least .result
 unfolding front
 undecided-within c =
     omega (arith, undecided-arm c .within, front-length (c .before .before .before .before .before .before .before .before))
@@ -142,11 +145,11 @@ undecided-within c =
 behind :
     (c : tie.Else1)
     → let l = c .before .before .before .before .before .before .before .before .before in
-    l .before .before .before .before .args .session .count ≤ c .before .before .at2 .given .0 .0
+    l .before .before .before .args .session .count ≤ c .before .before .at2 .given .0 .0
 unfolding front
 behind c =
     let l = c .before .before .before .before .before .before .before .before .before in
-    let s = l .before .before .before .before in
+    let s = l .before .before .before in
     omega (arith, undecided-arm (c .before) .short, front-length l, l .least .ensures, s .pre .1, s .pre .2, c .if1 .left)
 
 sub-least : tie.Need-sub-least
@@ -156,20 +159,20 @@ least-requires : tie.Need-least-requires
 least-requires c κs = search needs
 
 array-share-prefix-held : tie.Need-array-share-prefix-held
-array-share-prefix-held c = count-within (c .before .before .before .before)
+array-share-prefix-held c = count-within (c .before .before .before)
 
 slice-aggregate-join : tie.Need-slice-aggregate-join
-slice-aggregate-join c = sym (held-count (c .before .before .before .before .before))
+slice-aggregate-join c = sym (held-count (c .before .before .before .before))
 
 slice-aggregate-join-2 : tie.Need-slice-aggregate-join-2
 slice-aggregate-join-2 c =
     let s = c .before .before in
-    sym (length-take-le (s .least .result) (s .before .before .before .before .args .piece .now) (part-within s))
+    sym (length-take-le (s .least .result) (s .before .before .before .args .piece .now) (part-within s))
 
 join-requires : tie.Need-join-requires
 join-requires c κs =
     let s = c .before .before in
-    omega (arith, held-count (s .before .before .before .before), front-most s, length-take-le (s .least .result) (s .before .before .before .before .args .piece .now) (part-within s))
+    omega (arith, held-count (s .before .before .before), front-most s, length-take-le (s .least .result) (s .before .before .before .args .piece .now) (part-within s))
 
 add-n : tie.Need-add-n
 add-n c = omega (arith, front-most (c .before .before .before))
@@ -209,7 +212,7 @@ part-hand-out-end c = omega (arith, complete-within c, window-length (c .before 
 hand-out-requires : tie.Need-hand-out-requires
 unfolding place size
 hand-out-requires c κs =
-    let s = c .before .before .before .before .before .before .before .before .before .before .before .before .before in
+    let s = c .before .before .before .before .before .before .before .before .before .before .before .before in
     let a = s .args in
     let at = place (c .before) in
     let n = 128 + length (a .piece .now) in
@@ -217,6 +220,7 @@ hand-out-requires c κs =
     let m = front-most (c .before .before .before .before .before .before .before .before .before) in (
       room-less (a .session) n at (omega (arith, w, m)) (s .pre .3),
       room-less (a .session) n (at + size (c .before) - a .session .count) (omega (arith, w, m)) (s .pre .3),
+      s .pre .4,
     )
 
 enum-known-at-2 : tie.Need-enum-known-at-2
@@ -234,7 +238,7 @@ part-hold-end c = search needs
 hold-requires : tie.Need-hold-requires
 unfolding front
 hold-requires c κs =
-    let s = c .before .before .before .before .before .before .before .before .before .before .before .before .before .before in
+    let s = c .before .before .before .before .before .before .before .before .before .before .before .before .before in
     let a = s .args in
     let at = c .before .before .before .at2 .given .0 .0 in
     let n = 128 + length (a .piece .now) in
@@ -259,7 +263,7 @@ sub-scan-on c = behind c
 
 scan-on-requires : tie.Need-scan-on-requires
 scan-on-requires c κs =
-    let s = c .before .before .before .before .before .before .before .before .before .before .before .before .before in
+    let s = c .before .before .before .before .before .before .before .before .before .before .before .before in
     let a = s .args in
     let at = c .before .before .at2 .given .0 .0 in
     let w = undecided-within (c .before) in
@@ -267,13 +271,14 @@ scan-on-requires c κs =
       s .pre .0,
       omega (arith, w, part-within (c .before .before .before .before .before .before .before .before .before)),
       room-less (a .session) (128 + length (a .piece .now)) (at + length (a .piece .now)) (omega (arith, w, m)) (s .pre .3),
+      s .pre .4,
     )
 
 returns : tie.Need-returns
 unfolding place size front
 returns c =
     let l = c .before .before .before .before .before .before .before .before .before .before in
-    let s = l .before .before .before .before in
+    let s = l .before .before .before in
     let a = s .args in
     let u = a .session .setup in
     let at = place (c .before .before) in
@@ -295,7 +300,7 @@ returns c =
 returns-2 : tie.Need-returns-2
 unfolding front
 returns-2 c =
-    let a = c .before .before .before .before .before .before .before .before .before .before .before .before .before .before .before .args in
+    let a = c .before .before .before .before .before .before .before .before .before .before .before .before .before .before .args in
     let u = a .session .setup in
     let at = c .before .before .before .before .at2 .given .0 .0 in
     let m = c .before .before .before .before .before .before .before .before .before .before .before .least .result in
@@ -311,7 +316,7 @@ returns-2 c =
 returns-3 : tie.Need-returns-3
 unfolding front
 returns-3 c =
-    let s = c .before .before .before .before .before .before .before .before .before .before .before .before .before .before in
+    let s = c .before .before .before .before .before .before .before .before .before .before .before .before .before in
     let a = s .args in
     let u = a .session .setup in
     let at = c .before .before .before .at2 .given .0 .0 in

@@ -5,9 +5,10 @@ use mathlib.Core.List.{List}
 use native.Mathlib.Omega.{arith}
 use lib.ListN.{length, take, drop, length-drop}
 use Rattle.setup.proofs.Refusals.{accepted-length}
-use Rattle.scan.specs.Scan.{first, later}
-use Rattle.search.specs.Search.{verdictOf, placeOf}
+use Rattle.scan.specs.Scan.{Verdict, first, later}
+use Rattle.search.specs.Search.{verdictOf, verdictIn, placeOf}
 use Rattle.search.proofs.Places.{to-end, part-of, IsComplete, IsUndecided, found-complete, found-undecided}
+use Rattle.receiver.proofs.BySetup.{sensor-verdict}
 use Rattle.receiver.proofs.CallParts.{reply-found, reply-held, room-less}
 use borrow.Author.Needs.{needs}
 use Rattle.receiver.proofs.scan_on.Statement.{statement}
@@ -23,44 +24,46 @@ size c = c .before .at .given .0 .1 .0
 -- what it tells
 complete-arm :
     (c : tie.After-known-told)
-    → let a = c .before .before .before .before .before .before .before .args in
+    → let a = c .before .before .before .before .before .before .args in
     IsComplete (a .session .setup) (drop (a .from) (a .piece .now)) (place c) (size c)
 unfolding place size
 complete-arm c =
-    let s = c .before .before .before .before .before .before .before in
+    let s = c .before .before .before .before .before .before in
     let u = s .args .session .setup in
     let p = s .args .piece .now in
     found-complete u (s .pre .0) (drop (s .args .from) p) (place c)
-    (ap (λ (l : List ℕ). placeOf (first (verdictOf u) l)) (sym (to-end p (s .args .from)))
+    (ap (λ (v : List ℕ → Verdict). placeOf (first v (drop (s .args .from) p))) (sym (sensor-verdict u (s .pre .0) (s .args .sensor) (s .pre .3)))
+    ∙ ap (λ (l : List ℕ). placeOf (first (verdictIn (s .args .sensor)) l)) (sym (to-end p (s .args .from)))
     ∙ sym (c .before .before .before .find .ensures)
     ∙ c .before .at .given .1)
 
 undecided-arm :
     (c : tie.After-known-told2)
-    → let a = c .before .before .before .before .before .before .before .args in
+    → let a = c .before .before .before .before .before .before .args in
     IsUndecided (a .session .setup) (drop (a .from) (a .piece .now)) (c .before .at2 .given .0 .0)
 undecided-arm c =
-    let s = c .before .before .before .before .before .before .before in
+    let s = c .before .before .before .before .before .before in
     let u = s .args .session .setup in
     let p = s .args .piece .now in
     found-undecided u (s .pre .0) (drop (s .args .from) p) (c .before .at2 .given .0 .0)
-    (ap (λ (l : List ℕ). placeOf (first (verdictOf u) l)) (sym (to-end p (s .args .from)))
+    (ap (λ (v : List ℕ → Verdict). placeOf (first v (drop (s .args .from) p))) (sym (sensor-verdict u (s .pre .0) (s .args .sensor) (s .pre .3)))
+    ∙ ap (λ (l : List ℕ). placeOf (first (verdictIn (s .args .sensor)) l)) (sym (to-end p (s .args .from)))
     ∙ sym (c .before .before .before .find .ensures)
     ∙ c .before .at2 .given .1)
 
 -- the place lies in the piece
 complete-within :
     (c : tie.After-known-told)
-    → let a = c .before .before .before .before .before .before .before .args in a .from + (place c + size c) ≤ length (a .piece .now)
+    → let a = c .before .before .before .before .before .before .args in a .from + (place c + size c) ≤ length (a .piece .now)
 complete-within c =
-    let s = c .before .before .before .before .before .before .before in
+    let s = c .before .before .before .before .before .before in
     omega (arith, complete-arm c .within, length-drop (s .args .from) (s .args .piece .now), s .pre .1)
 
 undecided-within :
     (c : tie.After-known-told2)
-    → let a = c .before .before .before .before .before .before .before .args in a .from + c .before .at2 .given .0 .0 ≤ length (a .piece .now)
+    → let a = c .before .before .before .before .before .before .args in a .from + c .before .at2 .given .0 .0 ≤ length (a .piece .now)
 undecided-within c =
-    let s = c .before .before .before .before .before .before .before in
+    let s = c .before .before .before .before .before .before in
     omega (arith, undecided-arm c .within, length-drop (s .args .from) (s .args .piece .now), s .pre .1)
 
 -- the part of the piece that is searched
@@ -88,15 +91,15 @@ enum-known-at c = search needs
 
 add-end : tie.Need-add-end
 unfolding place size
-add-end c = omega (arith, complete-within c, c .before .before .before .before .before .before .before .pre .2 .passed)
+add-end c = omega (arith, complete-within c, c .before .before .before .before .before .before .pre .2 .passed)
 
 add-hand-out : tie.Need-add-hand-out
 unfolding place size
-add-hand-out c = omega (arith, complete-within c, c .before .before .before .before .before .before .before .pre .2 .passed)
+add-hand-out c = omega (arith, complete-within c, c .before .before .before .before .before .before .pre .2 .passed)
 
 add-hand-out-2 : tie.Need-add-hand-out-2
 unfolding place size
-add-hand-out-2 c = omega (arith, complete-within c, c .before .before .before .before .before .before .before .pre .2 .passed)
+add-hand-out-2 c = omega (arith, complete-within c, c .before .before .before .before .before .before .pre .2 .passed)
 
 sub-hand-out : tie.Need-sub-hand-out
 sub-hand-out c = search needs
@@ -106,38 +109,39 @@ part-hand-out-start c = search needs
 
 part-hand-out-end : tie.Need-part-hand-out-end
 unfolding place size
-part-hand-out-end c = omega (arith, complete-within c, rest-length (c .before .before .before .before .before .before .before))
+part-hand-out-end c = omega (arith, complete-within c, rest-length (c .before .before .before .before .before .before))
 
 hand-out-requires : tie.Need-hand-out-requires
 unfolding place size
 hand-out-requires c κs =
-    let s = c .before .before .before .before .before .before .before .before in
+    let s = c .before .before .before .before .before .before .before in
     let a = s .args in
     let n = a .passed + length (a .piece .now) in
     let at = place (c .before) in
     let w = complete-within (c .before) in (
       room-less (a .session) n (a .passed + at) (omega arith) (s .pre .2),
       room-less (a .session) n (a .from + (at + size (c .before))) (omega arith) (s .pre .2),
+      s .pre .3,
     )
 
 enum-known-at-2 : tie.Need-enum-known-at-2
 enum-known-at-2 c = search needs
 
 add-hold : tie.Need-add-hold
-add-hold c = omega (arith, undecided-within c, c .before .before .before .before .before .before .before .pre .2 .passed)
+add-hold c = omega (arith, undecided-within c, c .before .before .before .before .before .before .pre .2 .passed)
 
 sub-hold : tie.Need-sub-hold
-sub-hold c = omega (arith, undecided-within c, rest-length (c .before .before .before .before .before .before .before))
+sub-hold c = omega (arith, undecided-within c, rest-length (c .before .before .before .before .before .before))
 
 part-hold-start : tie.Need-part-hold-start
-part-hold-start c = omega (arith, undecided-within c, rest-length (c .before .before .before .before .before .before .before))
+part-hold-start c = omega (arith, undecided-within c, rest-length (c .before .before .before .before .before .before))
 
 part-hold-end : tie.Need-part-hold-end
 part-hold-end c = search needs
 
 hold-requires : tie.Need-hold-requires
 hold-requires c κs =
-    let s = c .before .before .before .before .before .before .before .before in
+    let s = c .before .before .before .before .before .before .before in
     let a = s .args in
     let at = c .before .before .at2 .given .0 .0 in
     let n = a .passed + length (a .piece .now) in
@@ -158,7 +162,7 @@ hold-requires c κs =
 returns : tie.Need-returns
 unfolding place size
 returns c =
-    let s = c .before .before .before .before .before .before .before .before .before in
+    let s = c .before .before .before .before .before .before .before .before in
     let a = s .args in
     let at = place (c .before .before) in
     let n = size (c .before .before) in
@@ -174,7 +178,7 @@ returns c =
 
 returns-2 : tie.Need-returns-2
 returns-2 c =
-    let s = c .before .before .before .before .before .before .before .before .before in
+    let s = c .before .before .before .before .before .before .before .before in
     let a = s .args in
     let at = c .before .before .before .at2 .given .0 .0 in
     let p = a .piece .now in

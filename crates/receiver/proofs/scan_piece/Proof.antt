@@ -4,9 +4,11 @@ use mathlib.Core.Path.{_≡_, sym, ap, _∙_}
 use mathlib.Core.List.{_++_}
 use native.Mathlib.Omega.{arith}
 use lib.ListN.{length, take}
+use Rattle.setup.specs.Setup.{lengthOf}
+use Rattle.setup.proofs.Sensors.{sensor-length}
 use Rattle.scan.specs.Scan.{first}
 use Rattle.scan.proofs.ScanLaws.{later-zero}
-use Rattle.search.specs.Search.{verdictOf}
+use Rattle.search.specs.Search.{verdictOf, sizeIn}
 use Rattle.session.proofs.Soundness.{Facts, sound-facts}
 use Rattle.session.proofs.PieceRulings.{Admitted, admitted}
 use Rattle.receiver.specs.CallParts.{replyAtOnce}
@@ -17,20 +19,20 @@ use Rattle.receiver.proofs.scan_piece.Statement.{statement}
 use Rattle.receiver.proofs.scan_piece.Tie as tie
 
 allowed : (s : tie.Start) → Admitted (s .args .session) (length (s .args .piece .now))
-allowed s = admitted (s .args .session) (length (s .args .piece .now)) (s .pre)
+allowed s = admitted (s .args .session) (length (s .args .piece .now)) (s .pre .0)
 
 facts : (s : tie.Start) → Facts (s .args .session)
 facts s = sound-facts (s .args .session) (allowed s .sound)
 
 scan-on-requires : tie.Need-scan-on-requires
 scan-on-requires c κs =
-    let s = c .before .before .before in
+    let s = c .before .before in
     let a = s .args in
-    (facts s .accepted, omega arith, room-of (a .session) (facts s) (0 + length (a .piece .now)) (omega (arith, allowed s .piece)))
+    (facts s .accepted, omega arith, room-of (a .session) (facts s) (0 + length (a .piece .now)) (omega (arith, allowed s .piece)), s .pre .1)
 
 returns : tie.Need-returns
 returns c =
-    let s = c .before .before .before .before in
+    let s = c .before .before .before in
     let a = s .args in
     let v = verdictOf (a .session .setup) in
     let p = a .piece .now in
@@ -38,6 +40,12 @@ returns c =
     ∙ ap (replyAtOnce (a .session) p) (later-zero (first v p))
     ∙ ap (λ (n : ℕ). replyAtOnce (a .session) p (first v (take n (a .session .held) ++ p))) (sym (c .before .if1 .taken))
     ∙ sym (fed-at-once (a .session) (allowed s .sound) p (allowed s .piece) (allowed s .session))
+
+-- the length of the sensor's datagrams is the setup's
+longest : (c : tie.After-length-of) → c .length-of .result ≡ lengthOf (c .before .before .before .before .args .session .setup)
+longest c =
+    let s = c .before .before .before .before in
+    c .length-of .ensures ∙ ap sizeIn (s .pre .1) ∙ sym (sensor-length (s .args .session .setup) (facts s .accepted))
 
 length-of-requires : tie.Need-length-of-requires
 length-of-requires c κs = search needs
@@ -47,9 +55,10 @@ scan-held-requires c κs =
     let s = c .before .before .before .before in
     let a = s .args in (
       facts s .accepted,
-      c .length-of .ensures,
-      omega (arith, count-less (a .session) (facts s), c .length-of .ensures),
+      longest c,
+      omega (arith, count-less (a .session) (facts s), longest c),
       room-of (a .session) (facts s) (128 + length (a .piece .now)) (omega (arith, allowed s .piece)),
+      s .pre .1,
     )
 
 returns-2 : tie.Need-returns-2

@@ -1,12 +1,8 @@
 -- `session::axes_right` meets its contract. Assumes nothing.
-use Rattle.motion.specs.Totals.{groupsKept}
-use Rattle.session.specs.Session.{axesRight}
+use Rattle.session.specs.Session.{axesRightBy}
 use borrow.Author.Needs.{needs}
 use Rattle.session.proofs.axes_right.Statement.{statement}
 use Rattle.session.proofs.axes_right.Tie as tie
-
-kept-groups-requires : tie.Need-kept-groups-requires
-kept-groups-requires c κs = search needs
 
 array-read-group-right : tie.Need-array-read-group-right
 array-read-group-right c = search needs
@@ -27,14 +23,13 @@ group-right-requires-3 : tie.Need-group-right-requires-3
 group-right-requires-3 c κs = search needs
 
 returns : tie.Need-returns
-unfolding axesRight groupsKept
-returns c = rw (c .before .before .group-right .ensures, c .before .group-right2 .ensures, c .group-right3 .ensures, c .before .before .before .kept-groups .ensures)
+unfolding axesRightBy
+returns c = rw (c .before .before .group-right .ensures, c .before .group-right2 .ensures, c .group-right3 .ensures)
 
 pub axes-right-spec : {M : Type 1} → statement M
 axes-right-spec =
     tie.close
     (tie.spec
-    kept-groups-requires
     array-read-group-right
     group-right-requires
     array-read-group-right-2

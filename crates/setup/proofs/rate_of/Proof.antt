@@ -25,7 +25,14 @@ returns-5 c = rw (c .match .keys5)
 
 returns-6 : tie.Need-returns-6
 unfolding rateOf
-returns-6 c = rw (ne-eqb (c .before .args .number) 125 (c .match .rest .0 .0 .0 .0 .1), ne-eqb (c .before .args .number) 250 (c .match .rest .0 .0 .0 .1), ne-eqb (c .before .args .number) 500 (c .match .rest .0 .0 .1), ne-eqb (c .before .args .number) 1000 (c .match .rest .0 .1), ne-eqb (c .before .args .number) 2000 (c .match .rest .1))
+returns-6 c =
+    rw (
+      ne-eqb (c .before .args .number) 125 (c .match .rest .0 .0 .0 .0 .1),
+      ne-eqb (c .before .args .number) 250 (c .match .rest .0 .0 .0 .1),
+      ne-eqb (c .before .args .number) 500 (c .match .rest .0 .0 .1),
+      ne-eqb (c .before .args .number) 1000 (c .match .rest .0 .1),
+      ne-eqb (c .before .args .number) 2000 (c .match .rest .1),
+    )
 
 pub rate-of-spec : {M : Type 1} → statement M
 rate-of-spec = tie.close (tie.spec returns returns-2 returns-3 returns-4 returns-5 returns-6)

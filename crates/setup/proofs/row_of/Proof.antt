@@ -39,46 +39,59 @@ unfolding rowAt
 returns-2 c = rw (c .row-with2 .ensures, c .before .match .keys2)
 
 returns-3 : tie.Need-returns-3
-returns-3 c = rw (c .row-with3 .ensures) (sym (groups (c .before .before .before .before .args .identifier) (c .before .before .if1 .left) (c .before .if2 .taken)))
+returns-3 c =
+    let a = c .before .before .before .before .args in
+    rw (c .row-with3 .ensures) (sym (groups (a .identifier) (c .before .before .if1 .left) (c .before .if2 .taken)))
 
 returns-4 : tie.Need-returns-4
-returns-4 c = rw (c .row-with4 .ensures) (sym (groups-aux (c .before .before .before .before .before .before .args .identifier) (c .before .before .if3 .left) (c .before .if4 .taken)))
+returns-4 c =
+    let a = c .before .before .before .before .before .before .args in
+    rw (c .row-with4 .ensures) (sym (groups-aux (a .identifier) (c .before .before .if3 .left) (c .before .if4 .taken)))
 
 returns-5 : tie.Need-returns-5
-returns-5 c = rw (c .row-with5 .ensures) (sym (warm (c .before .before .before .before .before .before .before .before .args .identifier) (c .before .before .if5 .left) (c .before .if6 .taken)))
+returns-5 c =
+    let a = c .before .before .before .before .before .before .before .before .args in
+    rw (c .row-with5 .ensures) (sym (warm (a .identifier) (c .before .before .if5 .left) (c .before .if6 .taken)))
 
 returns-6 : tie.Need-returns-6
-returns-6 c = rw (c .row-with6 .ensures) (sym (warm-aux (c .before .before .before .before .before .before .before .before .before .before .args .identifier) (c .before .before .if7 .left) (c .before .if8 .taken)))
+returns-6 c =
+    let a = c .before .before .before .before .before .before .before .before .before .before .args in
+    rw (c .row-with6 .ensures) (sym (warm-aux (a .identifier) (c .before .before .if7 .left) (c .before .if8 .taken)))
 
 returns-7 : tie.Need-returns-7
 returns-7 c =
     let below = c .if1 .taken in
-    sym (unlisted (c .before .before .args .identifier) (λ p q. omega arith) (λ p q. omega arith) (λ p q. omega arith) (λ p q. omega arith))
+    let id = c .before .before .args .identifier in
+    sym (unlisted id (λ p q. omega arith) (λ p q. omega arith) (λ p q. omega arith) (λ p q. omega arith))
 
 returns-8 : tie.Need-returns-8
 returns-8 c =
     let above = c .before .if2 .left in
     let below = c .if3 .taken in
     let other = c .before .before .before .match .rest .0 .1 in
-    sym (unlisted (c .before .before .before .before .args .identifier) (λ p q. other (omega arith)) (λ p q. omega arith) (λ p q. omega arith) (λ p q. omega arith))
+    let id = c .before .before .before .before .args .identifier in
+    sym (unlisted id (λ p q. other (omega arith)) (λ p q. omega arith) (λ p q. omega arith) (λ p q. omega arith))
 
 returns-9 : tie.Need-returns-9
 returns-9 c =
     let above = c .before .if4 .left in
     let below = c .if5 .taken in
     let other = c .before .before .before .before .before .match .rest .1 in
-    sym (unlisted (c .before .before .before .before .before .before .args .identifier) (λ p q. omega arith) (λ p q. other (omega arith)) (λ p q. omega arith) (λ p q. omega arith))
+    let id = c .before .before .before .before .before .before .args .identifier in
+    sym (unlisted id (λ p q. omega arith) (λ p q. other (omega arith)) (λ p q. omega arith) (λ p q. omega arith))
 
 returns-10 : tie.Need-returns-10
 returns-10 c =
     let above = c .before .if6 .left in
     let below = c .if7 .taken in
-    sym (unlisted (c .before .before .before .before .before .before .before .before .args .identifier) (λ p q. omega arith) (λ p q. omega arith) (λ p q. omega arith) (λ p q. omega arith))
+    let id = c .before .before .before .before .before .before .before .before .args .identifier in
+    sym (unlisted id (λ p q. omega arith) (λ p q. omega arith) (λ p q. omega arith) (λ p q. omega arith))
 
 returns-11 : tie.Need-returns-11
 returns-11 c =
     let above = c .if8 .left in
-    sym (unlisted (c .before .before .before .before .before .before .before .before .before .args .identifier) (λ p q. omega arith) (λ p q. omega arith) (λ p q. omega arith) (λ p q. omega arith))
+    let id = c .before .before .before .before .before .before .before .before .before .args .identifier in
+    sym (unlisted id (λ p q. omega arith) (λ p q. omega arith) (λ p q. omega arith) (λ p q. omega arith))
 
 pub row-of-spec : {M : Type 1} → statement M
 row-of-spec =

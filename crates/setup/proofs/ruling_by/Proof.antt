@@ -21,16 +21,19 @@ identifier-fine c = listing-told (c .before) ∙ not-false (c .before .is-listed
 units-fine : (c : tie.Else4) → anyAbove 3 (c .before .before .before .before .before .before .before .before .before .args .setup .units) ≡ false
 units-fine c = sym (c .before .any-above .ensures) ∙ c .if4 .left
 
-shifts-fine : (c : tie.Else5) → anyAbove 31 (c .before .before .before .before .before .before .before .before .before .before .before .before .args .setup .shifts) ≡ false
+shifts-fine : (c : tie.Else5) → let at = c .before .before .before .before .before .before in anyAbove 31 (at .before .before .before .before .before .before .args .setup .shifts) ≡ false
 shifts-fine c = sym (c .before .any-above2 .ensures) ∙ c .if5 .left
 
-groups-told : (c : tie.After-groups-of) → c .groups-of .result ≡ groupsCarried (c .before .before .before .before .before .before .before .before .before .before .before .before .before .before .args .setup .identifier)
+groups-told : (c : tie.After-groups-of) → let at = c .before .before .before .before .before .before .before in c .groups-of .result ≡ groupsCarried (at .before .before .before .before .before .before .before .args .setup .identifier)
 groups-told c =
-    let i = c .before .before .before .before .before .before .before .before .before .before .before .before .before .before .args .setup .identifier in
-    rw (c .groups-of .ensures, c .before .listed-row .ensures, c .before .before .before .before .before .before .before .before .before .before .before .before .before .before .pre)
-    (sym (carried-groups i (identifier-fine (c .before .before .before .before .before .before .before .before .before .before))))
+    let at = c .before .before .before .before .before .before .before in
+    let start = at .before .before .before .before .before .before .before in
+    rw (c .groups-of .ensures, c .before .listed-row .ensures, start .pre)
+    (sym (carried-groups (start .args .setup .identifier) (identifier-fine (at .before .before .before))))
 
-stray-told : (c : tie.After-stray) → stray (groupsCarried (c .before .before .before .before .before .before .before .before .before .before .before .before .before .before .before .args .setup .identifier)) (c .before .before .before .before .before .before .before .before .before .before .before .before .before .before .before .args .setup .units) (c .before .before .before .before .before .before .before .before .before .before .before .before .before .before .before .args .setup .shifts) ≡ c .stray .result
+stray-told :
+    (c : tie.After-stray) → let at = c .before .before .before .before .before .before .before in let u = at .before .before .before .before .before .before .before .before .args .setup in
+    stray (groupsCarried (u .identifier)) (u .units) (u .shifts) ≡ c .stray .result
 stray-told c = rw (← groups-told (c .before)) (sym (c .stray .ensures))
 
 rate-listed-requires : tie.Need-rate-listed-requires
@@ -56,14 +59,27 @@ any-above-requires c κs = search needs
 
 returns-4 : tie.Need-returns-4
 unfolding rulingOn setupRules
-returns-4 c = rw (rate-fine (c .before .before .before .before .before .before .before), identifier-fine (c .before .before .before .before .before), le-ltb _ _ (c .before .before .before .if3 .left), sym (c .before .any-above .ensures) ∙ c .if4 .taken)
+returns-4 c =
+    rw (
+      rate-fine (c .before .before .before .before .before .before .before),
+      identifier-fine (c .before .before .before .before .before),
+      le-ltb _ _ (c .before .before .before .if3 .left),
+      sym (c .before .any-above .ensures) ∙ c .if4 .taken,
+    )
 
 any-above-requires-2 : tie.Need-any-above-requires-2
 any-above-requires-2 c κs = search needs
 
 returns-5 : tie.Need-returns-5
 unfolding rulingOn setupRules
-returns-5 c = rw (rate-fine (c .before .before .before .before .before .before .before .before .before .before), identifier-fine (c .before .before .before .before .before .before .before .before), le-ltb _ _ (c .before .before .before .before .before .before .if3 .left), units-fine (c .before .before .before), sym (c .before .any-above2 .ensures) ∙ c .if5 .taken)
+returns-5 c =
+    rw (
+      rate-fine (c .before .before .before .before .before .before .before .before .before .before),
+      identifier-fine (c .before .before .before .before .before .before .before .before),
+      le-ltb _ _ (c .before .before .before .before .before .before .if3 .left),
+      units-fine (c .before .before .before),
+      sym (c .before .any-above2 .ensures) ∙ c .if5 .taken,
+    )
 
 listed-row-requires : tie.Need-listed-row-requires
 listed-row-requires c κs = search needs
@@ -76,11 +92,27 @@ stray-requires c κs = search needs
 
 returns-6 : tie.Need-returns-6
 unfolding rulingOn setupRules
-returns-6 c = rw (rate-fine (c .before .before .before .before .before .before .before .before .before .before .before .before .before .before), identifier-fine (c .before .before .before .before .before .before .before .before .before .before .before .before), le-ltb _ _ (c .before .before .before .before .before .before .before .before .before .before .if3 .left), units-fine (c .before .before .before .before .before .before .before), shifts-fine (c .before .before .before .before), stray-told (c .before) ∙ c .if6 .taken)
+returns-6 c =
+    rw (
+      rate-fine (c .before .before .before .before .before .before .before .before .before .before .before .before .before .before),
+      identifier-fine (c .before .before .before .before .before .before .before .before .before .before .before .before),
+      le-ltb _ _ (c .before .before .before .before .before .before .before .before .before .before .if3 .left),
+      units-fine (c .before .before .before .before .before .before .before),
+      shifts-fine (c .before .before .before .before),
+      stray-told (c .before) ∙ c .if6 .taken,
+    )
 
 returns-7 : tie.Need-returns-7
 unfolding rulingOn setupRules
-returns-7 c = rw (rate-fine (c .before .before .before .before .before .before .before .before .before .before .before .before .before .before), identifier-fine (c .before .before .before .before .before .before .before .before .before .before .before .before), le-ltb _ _ (c .before .before .before .before .before .before .before .before .before .before .if3 .left), units-fine (c .before .before .before .before .before .before .before), shifts-fine (c .before .before .before .before), stray-told (c .before) ∙ c .if6 .left)
+returns-7 c =
+    rw (
+      rate-fine (c .before .before .before .before .before .before .before .before .before .before .before .before .before .before),
+      identifier-fine (c .before .before .before .before .before .before .before .before .before .before .before .before),
+      le-ltb _ _ (c .before .before .before .before .before .before .before .before .before .before .if3 .left),
+      units-fine (c .before .before .before .before .before .before .before),
+      shifts-fine (c .before .before .before .before),
+      stray-told (c .before) ∙ c .if6 .left,
+    )
 
 pub ruling-by-spec : {M : Type 1} → statement M
 ruling-by-spec =

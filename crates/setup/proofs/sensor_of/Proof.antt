@@ -20,7 +20,8 @@ array-read-t16 c = search needs
 
 returns : tie.Need-returns
 unfolding sensorOf
-returns c = rw (c .before .before .before .before .rate-of .ensures, c .before .before .units-of .ensures, ← c .before .before .before .before .before .pre)
+returns c =
+    rw (c .before .before .before .before .rate-of .ensures, c .before .before .units-of .ensures, ← c .before .before .before .before .before .pre)
 
 pub sensor-of-spec : {M : Type 1} → statement M
 sensor-of-spec =

@@ -23,12 +23,14 @@ shared-slice-read-result-2 c =
 
 returns : tie.Need-returns
 returns c =
-    let r = c .before .before .before .before .before .args .row in
-    let s = c .before .before .before .before .before .args .s .now in
-    rw (c .before .before .before .if1 .taken, c .before .before .length-of .ensures) (sym (ending-bytes r s (rw (c .before .before .before .if1 .taken) at (c .before .before .before .before .before .pre))))
+    let a = c .before .before .before .before .before .args in
+    let with-ending = c .before .before .before .if1 .taken in
+    rw (with-ending, c .before .before .length-of .ensures) (sym (ending-bytes (a .row) (a .s .now) (rw with-ending at (c .before .before .before .before .before .pre))))
 
 returns-2 : tie.Need-returns-2
-returns-2 c = rw (c .if1 .left) (sym (ending-none (c .before .before .args .row) (c .before .before .args .s .now) (rw (c .if1 .left) at (c .before .before .pre))))
+returns-2 c =
+    let a = c .before .before .args in
+    rw (c .if1 .left) (sym (ending-none (a .row) (a .s .now) (rw (c .if1 .left) at (c .before .before .pre))))
 
 pub ending-right-spec : {M : Type 1} → statement M
 ending-right-spec =

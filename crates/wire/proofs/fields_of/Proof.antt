@@ -23,19 +23,25 @@ array-read-axes-at : tie.Need-array-read-axes-at
 array-read-axes-at c = search needs
 
 axes-at-requires : tie.Need-axes-at-requires
-axes-at-requires c κs = rw (c .before .before .temperature-places .ensures) (place-low (c .before .before .before .before .args .row) gyroTemperatures, (omega arith, omega arith))
+axes-at-requires c κs =
+    let a = c .before .before .before .before .args in
+    rw (c .before .before .temperature-places .ensures) (place-low (a .row) gyroTemperatures, (omega arith, omega arith))
 
 array-read-axes-at-2 : tie.Need-array-read-axes-at-2
 array-read-axes-at-2 c = search needs
 
 axes-at-requires-2 : tie.Need-axes-at-requires-2
-axes-at-requires-2 c κs = rw (c .before .before .before .temperature-places .ensures) (place-low (c .before .before .before .before .before .args .row) accelerometerTemperatures, (omega arith, omega arith))
+axes-at-requires-2 c κs =
+    let a = c .before .before .before .before .before .args in
+    rw (c .before .before .before .temperature-places .ensures) (place-low (a .row) accelerometerTemperatures, (omega arith, omega arith))
 
 array-read-axes-at-3 : tie.Need-array-read-axes-at-3
 array-read-axes-at-3 c = search needs
 
 axes-at-requires-3 : tie.Need-axes-at-requires-3
-axes-at-requires-3 c κs = rw (c .before .before .before .before .temperature-places .ensures) (place-low (c .before .before .before .before .before .before .args .row) inclinometerTemperatures, (omega arith, omega arith))
+axes-at-requires-3 c κs =
+    let a = c .before .before .before .before .before .before .args in
+    rw (c .before .before .before .before .temperature-places .ensures) (place-low (a .row) inclinometerTemperatures, (omega arith, omega arith))
 
 sub-bytes-at : tie.Need-sub-bytes-at
 sub-bytes-at c = search needs
@@ -43,16 +49,21 @@ sub-bytes-at c = search needs
 bytes-at-requires : tie.Need-bytes-at-requires
 bytes-at-requires c κs =
     let r = c .before .before .before .before .before .before .before .args .row in
-    rw (c .before .before .before .before .before .temperature-places .ensures) ((place-low r gyroTemperatures, place-low r accelerometerTemperatures, place-low r inclinometerTemperatures), omega arith)
+    rw (c .before .before .before .before .before .temperature-places .ensures)
+    ((place-low r gyroTemperatures, place-low r accelerometerTemperatures, place-low r inclinometerTemperatures), omega arith)
 
 aux-at-requires : tie.Need-aux-at-requires
-aux-at-requires c κs = rw (c .before .before .before .before .before .aux-place .ensures) (place-low (c .before .before .before .before .before .before .before .before .args .row) aux)
+aux-at-requires c κs =
+    let a = c .before .before .before .before .before .before .before .before .args in
+    rw (c .before .before .before .before .before .aux-place .ensures) (place-low (a .row) aux)
 
 sub-byte-at : tie.Need-sub-byte-at
 sub-byte-at c = search needs
 
 byte-at-requires : tie.Need-byte-at-requires
-byte-at-requires c κs = rw (c .before .before .before .before .before .before .aux-place .ensures) (place-low (c .before .before .before .before .before .before .before .before .before .args .row) aux, omega arith)
+byte-at-requires c κs =
+    let a = c .before .before .before .before .before .before .before .before .before .args in
+    rw (c .before .before .before .before .before .before .aux-place .ensures) (place-low (a .row) aux, omega arith)
 
 counter-requires : tie.Need-counter-requires
 counter-requires c κs = search needs

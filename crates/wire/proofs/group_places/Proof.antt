@@ -19,7 +19,9 @@ if-carried-requires-3 : tie.Need-if-carried-requires-3
 if-carried-requires-3 c κs = search needs
 
 returns : tie.Need-returns
-returns c = rw (groups-at (c .before .before .before .args .row), c .before .if-carried2 .ensures .0, c .if-carried3 .ensures .0, c .before .before .if-carried .ensures .0)
+returns c =
+    let a = c .before .before .before .args in
+    rw (groups-at (a .row), c .before .if-carried2 .ensures .0, c .if-carried3 .ensures .0, c .before .before .if-carried .ensures .0)
 
 pub group-places-spec : {M : Type 1} → statement M
 group-places-spec =

@@ -11,23 +11,42 @@ length-of-requires : tie.Need-length-of-requires
 length-of-requires c κs = search needs
 
 returns : tie.Need-returns
-returns c = rw (tested (c .before .before .before .args .identifier) (c .before .before .before .args .row) (c .before .before .before .args .terminated) (c .before .before .before .args .s .now), ← c .before .length-of .ensures, ne-eqb _ _ (c .if1 .taken))
+returns c =
+    let a = c .before .before .before .args in
+    rw (tested (a .identifier) (a .row) (a .terminated) (a .s .now), ← c .before .length-of .ensures, ne-eqb _ _ (c .if1 .taken))
 
 shared-slice-read-if2 : tie.Need-shared-slice-read-if2
-shared-slice-read-if2 c = omega (arith, c .before .if1 .left, c .before .before .length-of .ensures, length-range (c .before .before .before .before .args .row) (c .before .before .before .before .args .terminated))
+shared-slice-read-if2 c =
+    let a = c .before .before .before .before .args in
+    omega (arith, c .before .if1 .left, c .before .before .length-of .ensures, length-range (a .row) (a .terminated))
 
 ending-right-requires : tie.Need-ending-right-requires
 ending-right-requires c κs = search needs
 
 returns-2 : tie.Need-returns-2
-returns-2 c = rw (tested (c .before .before .before .before .before .before .args .identifier) (c .before .before .before .before .before .before .args .row) (c .before .before .before .before .before .before .args .terminated) (c .before .before .before .before .before .before .args .s .now), ← c .before .before .before .before .length-of .ensures, eq-eqb _ _ (c .before .before .before .if1 .left), ← c .before .ending-right .ensures, c .if2 .taken)
+returns-2 c =
+    let a = c .before .before .before .before .before .before .args in
+    rw (
+      tested (a .identifier) (a .row) (a .terminated) (a .s .now),
+      ← c .before .before .before .before .length-of .ensures,
+      eq-eqb _ _ (c .before .before .before .if1 .left),
+      ← c .before .ending-right .ensures,
+      c .if2 .taken,
+    )
 
 check-right-requires : tie.Need-check-right-requires
 check-right-requires c κs = search needs
 
 returns-3 : tie.Need-returns-3
 returns-3 c =
-    rw (tested (c .before .before .before .before .before .before .before .args .identifier) (c .before .before .before .before .before .before .before .args .row) (c .before .before .before .before .before .before .before .args .terminated) (c .before .before .before .before .before .before .before .args .s .now), ← c .before .before .before .before .before .length-of .ensures, eq-eqb _ _ (c .before .before .before .before .if1 .left), ← c .before .before .ending-right .ensures, c .before .if2 .left)
+    let a = c .before .before .before .before .before .before .before .args in
+    rw (
+      tested (a .identifier) (a .row) (a .terminated) (a .s .now),
+      ← c .before .before .before .before .before .length-of .ensures,
+      eq-eqb _ _ (c .before .before .before .before .if1 .left),
+      ← c .before .before .ending-right .ensures,
+      c .before .if2 .left,
+    )
     (c .check-right .ensures)
 
 pub is-acceptable-spec : {M : Type 1} → statement M

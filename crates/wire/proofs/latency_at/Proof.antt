@@ -33,12 +33,15 @@ unsigned-of-requires-2 : tie.Need-unsigned-of-requires-2
 unsigned-of-requires-2 c κs = search needs
 
 returns : tie.Need-returns
-returns c = c .unsigned-of .ensures ∙ ap bigEndian (sym (two-bytes (c .before .before .before .before .before .args .at) (c .before .before .before .before .before .args .s .now)))
+returns c =
+    let a = c .before .before .before .before .before .args in
+    c .unsigned-of .ensures ∙ ap bigEndian (sym (two-bytes (a .at) (a .s .now)))
 
 returns-2 : tie.Need-returns-2
 returns-2 c =
+    let a = c .before .before .before .before .before .args in
     let value = rw (c .before .before .byte-or-zero .ensures, c .before .byte-or-zero2 .ensures) at (c .unsigned-of2 .ensures) in
-    value ∙ ap bigEndian (sym (two-bytes (c .before .before .before .before .before .args .at) (c .before .before .before .before .before .args .s .now)))
+    value ∙ ap bigEndian (sym (two-bytes (a .at) (a .s .now)))
 
 pub latency-at-spec : {M : Type 1} → statement M
 latency-at-spec =

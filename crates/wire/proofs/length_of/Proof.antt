@@ -17,7 +17,8 @@ add-result-2 : tie.Need-add-result-2
 add-result-2 c = omega (arith, c .before .check-place .ensures, c .if-carried .ensures, before-range (c .before .before .args .row))
 
 returns : tie.Need-returns
-returns c = rw (length-parts (c .before .before .args .row) (c .before .before .args .terminated), c .before .check-place .ensures, c .if-carried .ensures .0)
+returns c =
+    rw (length-parts (c .before .before .args .row) (c .before .before .args .terminated), c .before .check-place .ensures, c .if-carried .ensures .0)
 
 pub length-of-spec : {M : Type 1} → statement M
 length-of-spec =

@@ -56,7 +56,9 @@ returns-2 : tie.Need-returns-2
 returns-2 c =
     let s = c .before .before .before .before .before .before .args .s .now in
     let at = c .before .before .before .before .before .before .args .at in
-    let value = rw (c .before .before .before .byte-or-zero .ensures, c .before .before .byte-or-zero2 .ensures, c .before .byte-or-zero3 .ensures) at (c .reading-of2 .ensures) in
+    let first = c .before .before .before .byte-or-zero .ensures in
+    let second = c .before .before .byte-or-zero2 .ensures in
+    let value = rw (first, second, c .before .byte-or-zero3 .ensures) at (c .reading-of2 .ensures) in
     kept w32 (c .reading-of2 .ok) (value ∙ ap signedBytes (sym (three-bytes at s)))
 
 pub reading-at-spec : {M : Type 1} → statement M

@@ -21,13 +21,17 @@ array-read-axes-at-2 : tie.Need-array-read-axes-at-2
 array-read-axes-at-2 c = search needs
 
 axes-at-requires-2 : tie.Need-axes-at-requires-2
-axes-at-requires-2 c κs = rw (c .before .group-places .ensures) (place-low (c .before .before .before .args .row) accelerometer, (omega arith, omega arith))
+axes-at-requires-2 c κs =
+    let a = c .before .before .before .args in
+    rw (c .before .group-places .ensures) (place-low (a .row) accelerometer, (omega arith, omega arith))
 
 array-read-axes-at-3 : tie.Need-array-read-axes-at-3
 array-read-axes-at-3 c = search needs
 
 axes-at-requires-3 : tie.Need-axes-at-requires-3
-axes-at-requires-3 c κs = rw (c .before .before .group-places .ensures) (place-low (c .before .before .before .before .args .row) inclinometer, (omega arith, omega arith))
+axes-at-requires-3 c κs =
+    let a = c .before .before .before .before .args in
+    rw (c .before .before .group-places .ensures) (place-low (a .row) inclinometer, (omega arith, omega arith))
 
 returns : tie.Need-returns
 unfolding contentsOf

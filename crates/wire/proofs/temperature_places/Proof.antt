@@ -26,7 +26,16 @@ if-carried-requires-4 : tie.Need-if-carried-requires-4
 if-carried-requires-4 c κs = search needs
 
 returns : tie.Need-returns
-returns c = rw (temperatures-at (c .before .before .before .before .before .before .before .args .row), c .before .before .before .before .if-carried2 .ensures .0, c .before .before .if-carried3 .ensures .0, c .if-carried4 .ensures .0, c .before .before .before .before .before .if-carried .ensures .0, c .before .before .before .before .before .before .groups-end .ensures)
+returns c =
+    let a = c .before .before .before .before .before .before .before .args in
+    rw (
+      temperatures-at (a .row),
+      c .before .before .before .before .if-carried2 .ensures .0,
+      c .before .before .if-carried3 .ensures .0,
+      c .if-carried4 .ensures .0,
+      c .before .before .before .before .before .if-carried .ensures .0,
+      c .before .before .before .before .before .before .groups-end .ensures,
+    )
 
 pub temperature-places-spec : {M : Type 1} → statement M
 temperature-places-spec =

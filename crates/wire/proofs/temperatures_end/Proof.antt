@@ -23,10 +23,27 @@ if-carried-requires-3 : tie.Need-if-carried-requires-3
 if-carried-requires-3 c κs = search needs
 
 add-result : tie.Need-add-result
-add-result c = omega (arith, c .before .groups-end .ensures, c .if-carried3 .ensures, ends-low (c .before .before .before .before .args .row), c .before .before .if-carried2 .ensures, c .before .before .before .if-carried .ensures)
+add-result c =
+    let a = c .before .before .before .before .args in
+    omega (
+      arith,
+      c .before .groups-end .ensures,
+      c .if-carried3 .ensures,
+      ends-low (a .row),
+      c .before .before .if-carried2 .ensures,
+      c .before .before .before .if-carried .ensures,
+    )
 
 returns : tie.Need-returns
-returns c = rw (temperatures-end (c .before .before .before .before .args .row), c .before .groups-end .ensures, c .if-carried3 .ensures .0, c .before .before .if-carried2 .ensures .0, c .before .before .before .if-carried .ensures .0)
+returns c =
+    let a = c .before .before .before .before .args in
+    rw (
+      temperatures-end (a .row),
+      c .before .groups-end .ensures,
+      c .if-carried3 .ensures .0,
+      c .before .before .if-carried2 .ensures .0,
+      c .before .before .before .if-carried .ensures .0,
+    )
 
 pub temperatures-end-spec : {M : Type 1} → statement M
 temperatures-end-spec =

@@ -1,0 +1,56 @@
+-- For an accepted setup, what a datagram does and what comes back with it by the sensor is that by the setup's own rules. Assumes nothing.
+use Prim.Native.Nat.{ℕ, _<_}
+use mathlib.Core.Path.{_≡_, refl, sym, ap, _∙_}
+use mathlib.Core.Bool.{Bool, false}
+use mathlib.Core.List.{List}
+use lib.ListN.{getD}
+use Rattle.setup.specs.Setup.{rulingOn}
+use Rattle.setup.specs.Sensor.{sensorOf}
+use Rattle.setup.specs.declared.Setup.{Setup}
+use Rattle.setup.specs.declared.Sensor.{Sensor}
+use Rattle.setup.specs.declared.Ruling.the-variants.{Accepted}
+use Rattle.setup.proofs.Refusals.{each}
+use Rattle.wire.specs.Fields.{Contents, fieldsOf}
+use Rattle.wire.proofs.FieldBytes.{sensor-fields}
+use Rattle.motion.specs.Gaps.{gapAt}
+use Rattle.motion.specs.Totals.{keeps, groupsKept}
+use Rattle.motion.proofs.AcceptedSetup.{accepted-gap, accepted-kept}
+use Rattle.scan.specs.Scan.{Verdict}
+use Rattle.search.specs.Search.{verdictOf, verdictIn}
+use Rattle.search.proofs.Sensors.{verdict-sensor}
+use Rattle.session.specs.History.{historyNext}
+use Rattle.session.specs.declared.History.{History}
+use Rattle.receiver.specs.declared.Datagram.{Datagram}
+use Rattle.receiver.specs.Feed.{datagramWith, historyAfter, tell}
+
+-- the mark of one of the three groups
+pub kept-at : (u : Setup) (group : ℕ) → group < 3 → getD (groupsKept u) group false ≡ keeps u group
+unfolding groupsKept
+kept-at u = each (λ (g : ℕ). getD (groupsKept u) g false ≡ keeps u g) refl refl refl
+
+module _ (u : Setup) (ok : rulingOn u ≡ Accepted) where
+  -- the scan by a setup's sensor
+  pub sensor-verdict : (s : Sensor) → s ≡ sensorOf u → verdictIn s ≡ verdictOf u
+  sensor-verdict s e = ap verdictIn e ∙ verdict-sensor u ok
+
+  module _ (first : Bool) (h : History) (d : List ℕ) where
+    abbrev inside-it : Contents
+    inside-it = fieldsOf (u .identifier) d
+
+    pub after-datagram :
+        historyAfter (sensorOf u) first h d ≡ historyNext (groupsKept u) h (inside-it .readings) (inside-it .statuses) (inside-it .counter)
+    unfolding historyAfter
+    after-datagram =
+        λ i.
+        let c = sym (sensor-fields u d ok) i in
+        historyNext (accepted-kept u ok i) h (c .readings) (c .statuses) (c .counter)
+
+    pub told-datagram :
+        tell (sensorOf u) first h d
+        ≡ datagramWith (sensorOf u) (gapAt (u .rate) first (h .previous) (inside-it .counter)) inside-it
+        (historyNext (groupsKept u) h (inside-it .readings) (inside-it .statuses) (inside-it .counter) .axes)
+    unfolding tell
+    told-datagram =
+        λ i.
+        let c = sym (sensor-fields u d ok) i in
+        datagramWith (sensorOf u) (accepted-gap u ok first (h .previous) (c .counter) i) c (after-datagram i .axes)
