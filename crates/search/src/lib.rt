@@ -1,6 +1,10 @@
 // Where the first datagram of a setup lies in bytes (01, The scan).
 use setup::Sensor;
 ghost use mathlib.Core.Path.{_≡_};
+ghost use Prim.Native.Nat.{_+_, _≤_};
+ghost use lib.Dec.{ltb};
+ghost use lib.ListN.{length, drop};
+ghost use Rattle.bytes.specs.Bytes.{indexOf};
 ghost use Rattle.setup.specs.Layout.{layoutOf};
 ghost use Rattle.wire.specs.Acceptable.{acceptableIn};
 ghost use Rattle.scan.specs.Scan.{first};
@@ -29,6 +33,45 @@ fn is_datagram(sensor: Sensor, s: &[u8]) -> bool
     wire::is_acceptable(sensor.identifier, row, sensor.terminated, s)
 }
 
+// Whether a byte stands among the sixteen from a place on. All sixteen are looked at, which the compiler does at once.
+fn is_near(byte: u8, bytes: &[u8], place: usize) -> bool
+    requires { ⌜ place + 16 ≤ length (now bytes) ⌝ }
+    ensures { λ r. ⌜ r ≡ ltb (indexOf byte (drop place (now (bytes .entry)))) 16 ⌝ }
+{
+    let mut found = false;
+    let mut i = 0;
+    while i < 16 {
+        let at = place + i;
+        found = found | (bytes[at] == byte);
+        i += 1;
+    }
+    found
+}
+
+// A place from `from` on, up to which the byte doesn't stand: where it stands among the next sixteen, or fewer are left.
+fn near_place(byte: u8, bytes: &[u8], from: usize) -> usize
+    requires { ⌜ from ≤ length (now bytes) ⌝ }
+    ensures { λ r. ⌜ (r ≤ length (now (bytes .entry))) × (r + indexOf byte (drop r (now (bytes .entry))) ≡ from + indexOf byte (drop from (now (bytes .entry)))) ⌝ }
+{
+    let mut i = from;
+    while 16 <= bytes.len() - i {
+        if is_near(byte, bytes, i) {
+            return i;
+        }
+        i += 16;
+    }
+    i
+}
+
+// The place where the byte stands first from `from` on, or the end.
+fn next_place(byte: u8, bytes: &[u8], from: usize) -> usize
+    requires { ⌜ from ≤ length (now bytes) ⌝ }
+    ensures { λ r. ⌜ r ≡ from + indexOf byte (drop from (now (bytes .entry))) ⌝ }
+{
+    let near = near_place(byte, bytes, from);
+    bytes::scan::find(bytes, near, bytes.len(), byte)
+}
+
 // The scan of bytes up to their first datagram (01, The scan).
 pub fn find(sensor: Sensor, bytes: &[u8]) -> Place
     ensures { λ r. ⌜ r ≡ placeOf (first (verdictIn sensor) (now (bytes .entry))) ⌝ }
@@ -45,8 +88,10 @@ pub fn find(sensor: Sensor, bytes: &[u8]) -> Place
             if is_datagram(sensor, &bytes[i..end]) {
                 return Place::Complete(i, size);
             }
+            i += 1;
+        } else {
+            i = next_place(identifier, bytes, i + 1);
         }
-        i += 1;
     }
     Place::Undecided(i)
 }

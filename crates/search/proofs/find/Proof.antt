@@ -3,7 +3,6 @@ use Prim.Native.Nat.{ℕ, _+_, _-_, _≤_, _<_}
 use mathlib.Core.Path.{_≡_, refl, sym, ap, _∙_}
 use mathlib.Core.Bool.{Bool, true}
 use mathlib.Core.List.{List, []}
-use mathlib.Core.Logic.{⊎-elim}
 use native.Mathlib.Nat.{add-zero}
 use native.Mathlib.Omega.{arith}
 use borrow.Author.Needs.{needs}
@@ -12,6 +11,7 @@ use lib.Seq.{length-take-le}
 use Rattle.integers.specs.Bytes.{AllBytes}
 use Rattle.integers.proofs.Bytes.{bytes-take, bytes-drop}
 use Rattle.integers.proofs.Buffers.{part-of}
+use Rattle.bytes.specs.Bytes.{indexOf}
 use Rattle.setup.specs.Layout.{layoutOf}
 use Rattle.setup.specs.declared.Sensor.{Sensor}
 use Rattle.setup.proofs.Layouts.{length-range}
@@ -24,6 +24,7 @@ use Rattle.search.specs.declared.Place.the-variants.{Complete, Undecided
 use Rattle.scan.specs.Rules.{Rules}
 use Rattle.scan.specs.OneLength.{oneLength}
 use Rattle.search.specs.Search.{isDatagramIn, sizeIn, verdictIn, placeOf}
+use Rattle.search.proofs.Others.{index-within, passes-onward}
 use Rattle.search.proofs.Sensors.{bytes-sensor}
 use Rattle.search.proofs.find.Statement.{statement}
 use Rattle.search.proofs.find.Tie as tie
@@ -115,21 +116,45 @@ loop-less c = omega arith
 
 loop-again : tie.Need-loop-again Inv-loop μ-loop
 loop-again c =
-    let l = c .before .before .before .loop in
-    let a = c .before .before .before .before .before .before .args in
+    let l = c .before .before .before .before .before .before .before .loop in
+    let a = c .before .before .before .before .before .before .before .before .before .before .args in
     let s = a .sensor in
     let p = a .bytes .now in
-    let size = c .before .before .before .before .size-of .ensures in
-    let all : AllBytes p = record { each = λ i. omega (arith, c .before .shared-slice-known2 .given i) } in
-    let h : l .i < length p = omega arith in
-    let e : first (verdictIn s) (drop (l .i) p) ≡ later 1 (first (verdictIn s) (drop (l .i + 1) p)) =
-    ⊎-elim
-    (λ w.
-    passes-wrong (rulesIn s) p (l .i) h (identifier-told (s .identifier) (sizeIn s) _ (w .0 .taken)) (omega (arith, size, w .1 .left))
-    (tested s p (l .i) _ all size (sym (w .3 .ensures) ∙ w .4 .left)))
-    (λ w. passes-other (rulesIn s) p (l .i) h (other-told (s .identifier) (sizeIn s) _ (w .left)) refl)
-    (c .if1 .came) in
+    let size = c .before .before .before .before .before .before .before .before .size-of .ensures in
+    let all : AllBytes p = record { each = λ i. omega (arith, c .before .before .before .before .before .shared-slice-known2 .given i) } in
+    let told = identifier-told (s .identifier) (sizeIn s) _ (c .before .before .before .before .if1 .taken) in
+    let e =
+    passes-wrong (rulesIn s) p (l .i) (omega arith) told (omega (arith, size, c .before .before .before .if2 .left))
+    (tested s p (l .i) _ all size (sym (c .before .is-datagram .ensures) ∙ c .if3 .left)) in
     (l .inv .0 ∙ ap (later (l .i)) e ∙ later-later (l .i) 1 (first (verdictIn s) (drop (l .i + 1) p)), omega arith)
+
+add-next-place : tie.Need-add-next-place Inv-loop μ-loop
+add-next-place c = omega arith
+
+next-place-requires : tie.Need-next-place-requires Inv-loop μ-loop
+next-place-requires c κs = omega arith
+
+loop-less-2 : tie.Need-loop-less-2 Inv-loop μ-loop
+loop-less-2 c = omega (arith, c .next-place .ensures)
+
+loop-again-2 : tie.Need-loop-again-2 Inv-loop μ-loop
+loop-again-2 c =
+    let l = c .before .before .before .before .loop in
+    let a = c .before .before .before .before .before .before .before .args in
+    let s = a .sensor in
+    let p = a .bytes .now in
+    let others = indexOf (s .identifier) (drop (l .i + 1) p) in
+    let next = c .next-place .result in
+    let rest = first (verdictIn s) (drop next p) in
+    let one = passes-other (rulesIn s) p (l .i) (omega arith) (other-told (s .identifier) (sizeIn s) _ (c .before .if1 .left)) refl in
+    let more = passes-onward (s .identifier) (sizeIn s) (isDatagramIn s) p (l .i + 1) (c .next-place .ensures) in
+    let place : l .i + (1 + others) ≡ next = omega (arith, c .next-place .ensures) in (
+      l .inv .0
+          ∙ ap (later (l .i)) (one ∙ ap (later 1) more ∙ later-later 1 others rest)
+          ∙ later-later (l .i) (1 + others) rest
+          ∙ ap (λ (n : ℕ). later n rest) place,
+      omega (arith, c .next-place .ensures, index-within (s .identifier) (drop (l .i + 1) p), length-drop (l .i + 1) p),
+    )
 
 returns-3 : tie.Need-returns-3 Inv-loop μ-loop
 unfolding first
@@ -159,4 +184,8 @@ find-spec =
     add-i
     loop-less
     loop-again
+    add-next-place
+    next-place-requires
+    loop-less-2
+    loop-again-2
     returns-3)
