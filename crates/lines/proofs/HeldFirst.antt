@@ -18,8 +18,8 @@ use Rattle.scan.specs.Carry.{steps, carriedAfter}
 use Rattle.search.specs.Search.{limitsOf, verdictOf, placeOf}
 use Rattle.search.proofs.Places.{IsComplete, complete-length, found-complete, found-undecided}
 use Rattle.session.specs.Session.{sessionWith, heldBytes}
-use Rattle.session.specs.History.{awaitsFirst, historyNext}
-use Rattle.session.specs.declared.History.{History}
+use Rattle.history.specs.History.{awaitsFirst, historyNext}
+use Rattle.history.specs.declared.History.{History}
 use Rattle.session.specs.declared.Session.{Session}
 use Rattle.session.proofs.Soundness.{Facts, sound-facts}
 use Rattle.session.proofs.PieceRulings.{Admitted, admitted}

@@ -7,8 +7,8 @@ use native.Mathlib.Nat.{add-zero, mul-add, mul-one, mul-le-mul-right}
 use native.Mathlib.Omega.{arith}
 use lib.ListN.{length, take, drop, length-append, length-drop, drop-of-length-le}
 use lib.Seq.{sets, length-sets, length-take-le, take-all, drop-drop}
-use Rattle.session.specs.History.{awaitsFirst, historyNext}
-use Rattle.session.specs.declared.History.{History}
+use Rattle.history.specs.History.{awaitsFirst, historyNext}
+use Rattle.history.specs.declared.History.{History}
 use Rattle.session.specs.Session.{sessionWith}
 use Rattle.setup.specs.Setup.{rulingOn, lengthOf}
 use Rattle.setup.specs.declared.Setup.{Setup}

@@ -30,9 +30,9 @@ use Rattle.scan.specs.Carry.{steps, told}
 use Rattle.integers.proofs.Booleans.{and-true}
 use Rattle.search.specs.Search.{isDatagram}
 use Rattle.search.proofs.Datagrams.{datagram-parts}
-use Rattle.session.specs.History.{awaitsFirst, historyNext}
+use Rattle.history.specs.History.{awaitsFirst, historyNext}
 use Rattle.session.specs.Session.{axesRight}
-use Rattle.session.specs.declared.History.{History}
+use Rattle.history.specs.declared.History.{History}
 use Rattle.session.proofs.AxisLaws.{axes-at, axes-step}
 use Rattle.receiver.specs.Feed.{historyAfter, datagramWith, consumer}
 use Rattle.receiver.proofs.BySetup.{after-datagram, told-datagram}

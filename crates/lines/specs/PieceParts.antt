@@ -14,9 +14,9 @@ use Rattle.scan.specs.Scan.{Scanned, scan}
 use Rattle.scan.specs.Stream.{joined}
 use Rattle.scan.specs.Carry.{steps, tells, told, carriedAfter}
 use Rattle.search.specs.Search.{limitsOf, rulesOf, verdictOf}
-use Rattle.session.specs.History.{greatestCount}
+use Rattle.history.specs.History.{greatestCount}
 use Rattle.session.specs.Session.{axesRight, pieceRuling}
-use Rattle.session.specs.declared.History.{History}
+use Rattle.history.specs.declared.History.{History}
 use Rattle.session.specs.declared.Session.{Session}
 use Rattle.receiver.specs.Feed.{consumer, SessionState, stateOf, sessionOf}
 use Rattle.lines.specs.Lines.{lineOf, linesAfter, enough}

@@ -1,4 +1,5 @@
 // What a record gives a call: the values at its places. Numbers have their least significant byte first.
+use history::History;
 use motion::Axes;
 use motion::Axis;
 use motion::Datagrams;
@@ -7,7 +8,6 @@ use motion::GroupAxes;
 use motion::GroupTotals;
 use motion::Total;
 use motion::Totals;
-use session::History;
 use session::Session;
 use setup::Setup;
 ghost use Prim.Native.Nat.{_≤_};

@@ -21,8 +21,8 @@ use Rattle.motion.proofs.Bounds.{keptAfter, after-next, after-not-kept, after-w
 use Rattle.motion.proofs.NineAxes.{step-at, none-at, total-at, double-at}
 use Rattle.scan.specs.Carry.{steps, carriedAfter}
 use Rattle.scan.proofs.CarryLaws.{told-at, told-beyond}
-use Rattle.session.specs.History.{noHistory, awaitsFirst, historyNext}
-use Rattle.session.specs.declared.History.{History}
+use Rattle.history.specs.History.{noHistory, awaitsFirst, historyNext}
+use Rattle.history.specs.declared.History.{History}
 use Rattle.receiver.specs.declared.Datagram.{Datagram}
 use Rattle.receiver.specs.Feed.{datagramWith, historyAfter, tell, consumer, noDatagram}
 use Rattle.receiver.specs.Promises.{answersFor, sighting, sightings}

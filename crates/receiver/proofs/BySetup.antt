@@ -17,8 +17,8 @@ use Rattle.motion.specs.Totals.{keeps, groupsKept}
 use Rattle.motion.proofs.AcceptedSetup.{accepted-gap, accepted-kept}
 use Rattle.search.specs.Search.{verdictOf, verdictIn}
 use Rattle.search.proofs.Sensors.{verdict-sensor}
-use Rattle.session.specs.History.{historyNext}
-use Rattle.session.specs.declared.History.{History}
+use Rattle.history.specs.History.{historyNext}
+use Rattle.history.specs.declared.History.{History}
 use Rattle.receiver.specs.Feed.{datagramWith, historyAfter, tell}
 
 -- the mark of one of the three groups

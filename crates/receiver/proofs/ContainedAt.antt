@@ -19,8 +19,8 @@ use Rattle.scan.specs.Carry.{steps, tells, carriedAfter}
 use Rattle.scan.proofs.CarryLaws.{told-at}
 use Rattle.receiver.specs.Feed.{datagramWith, historyAfter, consumer, noDatagram}
 use Rattle.receiver.proofs.BySetup.{told-datagram}
-use Rattle.session.specs.History.{noHistory, awaitsFirst, historyNext}
-use Rattle.session.specs.declared.History.{History}
+use Rattle.history.specs.History.{noHistory, awaitsFirst, historyNext}
+use Rattle.history.specs.declared.History.{History}
 use Rattle.receiver.specs.Promises.{answersFor, Contained}
 
 pred-suc : (n : ℕ) → suc n - 1 ≡ n

@@ -38,8 +38,8 @@ use Rattle.scan.proofs.OneLength.{joined-length, scan-bare}
 use Rattle.search.specs.Search.{isDatagram, limitsOf, rulesOf, verdictOf}
 use Rattle.search.proofs.Datagrams.{datagram-length, datagram-least, lawful, prompt, datagram-parts}
 use Rattle.motion.specs.Totals.{noAxis}
-use Rattle.session.specs.History.{noHistory}
-use Rattle.session.specs.declared.History.{History}
+use Rattle.history.specs.History.{noHistory}
+use Rattle.history.specs.declared.History.{History}
 use Rattle.session.specs.Session.{freshOf, opening, isSound, heldBytes}
 use Rattle.session.specs.declared.Session.{Session}
 use Rattle.session.specs.declared.Opened.{Opened}

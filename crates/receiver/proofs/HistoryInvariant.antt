@@ -18,8 +18,8 @@ use Rattle.motion.specs.Totals.{groupsKept}
 use Rattle.scan.specs.Carry.{Invariant}
 use Rattle.search.specs.Search.{isDatagram}
 use Rattle.session.specs.Session.{axesRight}
-use Rattle.session.specs.History.{noHistory, historyNext}
-use Rattle.session.specs.declared.History.{History}
+use Rattle.history.specs.History.{noHistory, historyNext}
+use Rattle.history.specs.declared.History.{History}
 use Rattle.receiver.specs.Feed.{historyAfter, historyRight, consumer}
 use Rattle.session.proofs.AxisLaws.{axes-step, none-right}
 use Rattle.search.proofs.Datagrams.{datagram-length, datagram-parts}

@@ -18,7 +18,7 @@ use Rattle.setup.specs.declared.Ruling.the-variants.{Accepted}
 use Rattle.scan.proofs.RunLaws.{Safe}
 use Rattle.search.specs.Search.{rulesOf}
 use Rattle.session.specs.Session.{heldBytes, allZero, axesRight, isSound}
-use Rattle.session.specs.declared.History.{History}
+use Rattle.history.specs.declared.History.{History}
 use Rattle.session.specs.declared.Session.{Session}
 use Rattle.receiver.specs.Feed.{historyRight, consumer, SessionState, stateOf, sessionOf}
 use Rattle.session.proofs.Soundness.{Facts, sound-facts, facts-sound}

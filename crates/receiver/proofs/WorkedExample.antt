@@ -31,7 +31,7 @@ use Rattle.scan.proofs.AmongLaws.{scan-among}
 use Rattle.scan.proofs.OneLength.{scan-bare}
 use Rattle.search.specs.Search.{isDatagram, limitsOf, rulesOf, verdictOf}
 use Rattle.search.proofs.Datagrams.{lawful, prompt}
-use Rattle.session.specs.History.{historyNext}
+use Rattle.history.specs.History.{historyNext}
 use Rattle.session.specs.declared.Session.{Session}
 use Rattle.receiver.specs.declared.Datagram.{Datagram}
 use Rattle.receiver.specs.Feed.{datagramWith, historyAfter, tell, noDatagram}

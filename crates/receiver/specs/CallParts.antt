@@ -8,7 +8,7 @@ use Rattle.wire.specs.declared.Fields.{Fields}
 use Rattle.scan.specs.Scan.{First, ends, finds}
 use Rattle.scan.specs.Calls.{taking}
 use Rattle.scan.specs.Carry.{carrying}
-use Rattle.session.specs.History.{greatestCount}
+use Rattle.history.specs.History.{greatestCount}
 use Rattle.session.specs.declared.Session.{Session}
 use Rattle.receiver.specs.declared.Reply.{Reply}
 use Rattle.receiver.specs.Feed.{consumer, stateOf, replyOf}

@@ -28,9 +28,9 @@ use Rattle.scan.specs.Calls.{Fed, Report, Run}
 use Rattle.scan.specs.Carry as carry
 use Rattle.scan.specs.Carry.{Consumer, carrying}
 use Rattle.search.specs.Search.{verdictOf}
-use Rattle.session.specs.History.{noHistory, awaitsFirst, historyNext}
+use Rattle.history.specs.History.{noHistory, awaitsFirst, historyNext}
 use Rattle.session.specs.Session.{sessionWith, heldBytes, axesRight, pieceRuling}
-use Rattle.session.specs.declared.History.{History}
+use Rattle.history.specs.declared.History.{History}
 use Rattle.session.specs.declared.Session.{Session}
 use Rattle.receiver.specs.declared.Datagram.{Datagram}
 use Rattle.receiver.specs.declared.Answer.{Answer}

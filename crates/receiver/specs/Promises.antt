@@ -23,7 +23,7 @@ use Rattle.scan.specs.Calls.{Report}
 use Rattle.scan.specs.Stream.{stream, reports, NoTen, Among}
 use Rattle.scan.specs.Carry.{told}
 use Rattle.search.specs.Search.{isDatagram, limitsOf, verdictOf}
-use Rattle.session.specs.History.{noHistory}
+use Rattle.history.specs.History.{noHistory}
 use Rattle.session.specs.Session.{heldBytes, isSound, opening}
 use Rattle.session.specs.declared.Session.{Session}
 use Rattle.receiver.specs.declared.Datagram.{Datagram}

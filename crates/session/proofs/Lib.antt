@@ -1,5 +1,4 @@
 -- Laws of the rules: the axes of a session, what soundness says, what opening gives.
-pub mod HistoryLaws
 pub mod AxisLaws
 pub mod Soundness
 pub mod PieceRulings

@@ -1,3 +1,2 @@
--- A session, what it keeps of the datagrams handed out, opening one, and what feeding turns down.
-pub mod History
+-- A session, opening one, and what feeding turns down.
 pub mod Session

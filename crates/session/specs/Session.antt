@@ -18,8 +18,8 @@ use Rattle.motion.specs.declared.GroupAxes.{GroupAxes}
 use Rattle.motion.specs.declared.Axes.{Axes}
 use Rattle.scan.specs.Rules as rules
 use Rattle.search.specs.Search.{limitsOf, rulesOf}
-use Rattle.session.specs.History.{noHistory}
-use Rattle.session.specs.declared.History.{History}
+use Rattle.history.specs.History.{noHistory}
+use Rattle.history.specs.declared.History.{History}
 use Rattle.session.specs.declared.Session.{Session}
 use Rattle.session.specs.declared.Opened.{Opened}
 use Rattle.session.specs.declared.Limits.{Limits}

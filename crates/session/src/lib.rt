@@ -10,16 +10,13 @@ ghost use Rattle.setup.specs.Sensor.{sensorOf};
 ghost use Rattle.setup.specs.declared.Ruling.the-variants.{Accepted};
 ghost use Rattle.scan.specs.OneLength.{heldRule};
 ghost use Rattle.search.specs.Search.{limitsOf};
-ghost use Rattle.session.specs.History.{noHistory, gapNext, advanced};
 ghost use Rattle.session.specs.Session.{sessionWith, freshOf, opening, asStruct, isAccepted, allZero};
 ghost use Rattle.session.specs.Session.{axisRight, groupRight, axesRightBy, isSound, admissionOf};
+use history::History;
 use motion::Axes;
 use motion::Axis;
-use motion::Datagrams;
-use motion::Gap;
 use motion::GroupAxes;
 use setup::Described;
-use setup::Rate;
 use setup::Ruling;
 use setup::Sensor;
 use setup::Setup;
@@ -30,18 +27,6 @@ const PIECE_LIMIT: usize = 4096;
 const TOO_LONG: u8 = 11;
 
 const SESSION_LIMIT: u64 = 17179869184;
-
-// The greatest number of 64 bits.
-const GREATEST_COUNT: u64 = 18446744073709551615;
-
-// What a session keeps of the datagrams handed out, beside the bytes and counts of the scan.
-pub struct History {
-    // how many there were
-    pub datagrams: Datagrams,
-    // the counter of the last one
-    pub previous: u8,
-    pub axes: Axes,
-}
 
 // What is kept from call to call.
 pub struct Session {
@@ -65,48 +50,6 @@ pub enum Admission {
 pub struct Opened {
     pub answer: Ruling,
     pub session: Session,
-}
-
-// A history without any datagram.
-fn no_history() -> History
-    ensures { λ r. ⌜ r ≡ noHistory ⌝ }
-{
-    let axes = motion::no_axes();
-    History {
-        datagrams: Datagrams(0),
-        previous: 0,
-        axes: axes,
-    }
-}
-
-// What lies in front of the next datagram, of its counter (01, Status, doubles, gaps).
-pub fn gap_before(rate: Rate, history: History, counter: u8) -> Gap
-    ensures { λ r. ⌜ r ≡ gapNext rate history counter ⌝ }
-{
-    motion::gap_between(rate, history.datagrams.0 == 0, history.previous, counter)
-}
-
-// The history behind the next datagram, of its readings, statuses and counter; `kept`: which groups keep totals (01, Totals).
-pub fn advance(
-    kept: [bool; 3],
-    history: History,
-    readings: [[i32; 3]; 3],
-    statuses: [u8; 3],
-    counter: u8,
-) -> History
-    ensures { λ r. ⌜ r ≡ advanced kept history readings statuses counter ⌝ }
-{
-    let handed = history.datagrams.0;
-    if GREATEST_COUNT <= handed {
-        return history;
-    }
-    let before = history.axes;
-    let after = motion::step(kept, before, readings, statuses);
-    History {
-        datagrams: Datagrams(handed + 1),
-        previous: counter,
-        axes: after,
-    }
 }
 
 // How many of so many bytes a session can hold.
@@ -156,7 +99,7 @@ pub fn session_with(
 fn fresh(setup: Setup) -> Session
     ensures { λ r. ⌜ r ≡ freshOf setup ⌝ }
 {
-    let history = no_history();
+    let history = history::no_history();
     let none = [0u8; 1];
     session_with(setup, history, 0, 0, &none[..0])
 }

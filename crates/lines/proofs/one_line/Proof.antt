@@ -17,9 +17,9 @@ use Rattle.motion.specs.Totals.{groupsKept, totalsOf}
 use Rattle.motion.proofs.AcceptedSetup.{accepted-gap}
 use Rattle.text.specs.TextLine.{shownBy, shownText, outside, longestLine}
 use Rattle.search.proofs.Datagrams.{datagram-length}
-use Rattle.session.specs.History.{awaitsFirst, gapNext, historyNext, advanced}
-use Rattle.session.specs.declared.History.{History}
-use Rattle.session.proofs.HistoryLaws.{advanced-next}
+use Rattle.history.specs.History.{awaitsFirst, gapNext, historyNext, advanced}
+use Rattle.history.specs.declared.History.{History}
+use Rattle.history.proofs.HistoryLaws.{advanced-next}
 use Rattle.receiver.proofs.BySetup.{after-datagram}
 use Rattle.lines.specs.declared.LookedUp.{LookedUp}
 use Rattle.lines.specs.PieceParts.{nextLine, nextOf}

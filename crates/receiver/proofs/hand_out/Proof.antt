@@ -1,6 +1,6 @@
 -- `receiver::hand_out` meets its contract. Assumes nothing.
 use native.Mathlib.Omega.{arith}
-use Rattle.session.proofs.HistoryLaws.{advanced-next}
+use Rattle.history.proofs.HistoryLaws.{advanced-next}
 use Rattle.receiver.specs.Feed.{historyAfter, tell}
 use Rattle.receiver.specs.CallParts.{replyAfter}
 use Rattle.receiver.proofs.CallParts.{contents-read}

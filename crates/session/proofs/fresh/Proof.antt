@@ -2,7 +2,7 @@
 use mathlib.Core.Path.{ap, _∙_}
 use mathlib.Core.List.{[]}
 use Rattle.session.specs.Session.{sessionWith, freshOf}
-use Rattle.session.specs.declared.History.{History}
+use Rattle.history.specs.declared.History.{History}
 use borrow.Author.Needs.{needs}
 use Rattle.session.proofs.fresh.Statement.{statement}
 use Rattle.session.proofs.fresh.Tie as tie

@@ -5,8 +5,8 @@ use mathlib.Core.Path.{_≡_}
 use mathlib.Core.List.{List}
 use borrow.Author.Tests.{lt-leb}
 use lib.IntN.{ℤ}
-use Rattle.session.specs.declared.History.{History}
-use Rattle.session.specs.History.{historyNext, greatestCount, advanced}
+use Rattle.history.specs.declared.History.{History}
+use Rattle.history.specs.History.{historyNext, greatestCount, advanced}
 
 -- below the greatest count of 64 bits a history moves on by 01's rules
 pub advanced-next :

@@ -1,10 +1,10 @@
--- `session::advance` meets its contract. Assumes nothing.
+-- `history::advance` meets its contract. Assumes nothing.
 use native.Mathlib.Omega.{arith}
 use borrow.Author.Tests.{le-leb, lt-leb}
 use borrow.Author.Needs.{needs}
-use Rattle.session.specs.History.{historyNext, advanced}
-use Rattle.session.proofs.advance.Statement.{statement}
-use Rattle.session.proofs.advance.Tie as tie
+use Rattle.history.specs.History.{historyNext, advanced}
+use Rattle.history.proofs.advance.Statement.{statement}
+use Rattle.history.proofs.advance.Tie as tie
 
 returns : tie.Need-returns
 unfolding advanced

@@ -1,7 +1,7 @@
--- `session::no_history` meets its contract. Assumes nothing.
+-- `history::no_history` meets its contract. Assumes nothing.
 use borrow.Author.Needs.{needs}
-use Rattle.session.proofs.no_history.Statement.{statement}
-use Rattle.session.proofs.no_history.Tie as tie
+use Rattle.history.proofs.no_history.Statement.{statement}
+use Rattle.history.proofs.no_history.Tie as tie
 
 no-axes-requires : tie.Need-no-axes-requires
 no-axes-requires c κs = search needs

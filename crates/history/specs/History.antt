@@ -8,7 +8,7 @@ use Rattle.setup.specs.declared.Rate.{Rate}
 use Rattle.motion.specs.Gaps.{datagrams, gapBetween}
 use Rattle.motion.specs.Totals.{noAxes, stepped}
 use Rattle.motion.specs.declared.Gap.{Gap}
-use Rattle.session.specs.declared.History.{History}
+use Rattle.history.specs.declared.History.{History}
 
 -- a fresh session's: no datagram was handed out
 abbrev pub noHistory : History

@@ -1,0 +1,2 @@
+-- What a session keeps of the datagrams handed out.
+pub mod History
