@@ -23,8 +23,9 @@ use Rattle.motion.specs.declared.Axes.{Axes}
 use Rattle.motion.specs.declared.Gap.{Gap}
 use Rattle.motion.specs.declared.Gap.the-variants.{Missed, OffStep}
 use Rattle.motion.proofs.Gaps.{elapsed-range}
-use Rattle.text.specs.TextLine.{shownBy, shownText, longestLine, rowFits, readingsFit, totalsWithin, outside}
-use Rattle.text.proofs.Longest.{MissedFits, shown-longest}
+use Rattle.text_line.specs.ShownLine.{shownText, longestLine, rowFits, readingsFit, totalsWithin, outside}
+use Rattle.text.specs.TextLine.{shownBy}
+use Rattle.text_line.proofs.Longest.{MissedFits, shown-longest}
 use Rattle.scan.specs.Scan.{Scanned, passing, handing, holding}
 use Rattle.scan.specs.Carry.{steps, told}
 use Rattle.integers.proofs.Booleans.{and-true}

@@ -8,8 +8,8 @@ ghost use lib.Seq.{sets};
 ghost use Rattle.setup.specs.Setup.{rulingOn};
 ghost use Rattle.setup.specs.Sensor.{sensorOf};
 ghost use Rattle.setup.specs.declared.Ruling.the-variants.{Accepted};
-ghost use Rattle.text.specs.TextLine.{shownText, outside};
-ghost use Rattle.text.specs.Putting.{Put};
+ghost use Rattle.text_line.specs.ShownLine.{shownText, outside};
+ghost use Rattle.text_line.specs.Putting.{Put};
 ghost use Rattle.scan.specs.Scan.{first};
 ghost use Rattle.search.specs.Search.{isDatagram, limitsOf, verdictOf, placeOf};
 ghost use Rattle.history.specs.History.{greatestCount};
@@ -25,8 +25,8 @@ use session::Admission;
 use session::Session;
 use setup::Sensor;
 use setup::Setup;
-use text::Shown;
-use text::Written;
+use text_line::Shown;
+use text_line::Written;
 
 // A buffer of so many bytes is long enough for the lines of any piece.
 const ENOUGH: usize = 72000;
@@ -86,7 +86,7 @@ fn put_behind(
     requires { ⌜ outside ordinal readings totals ≡ false ⌝ ∗ ⌜ used + length (shownText shown ordinal counter latency gap readings statuses totals) ≤ length (now buffer) ⌝ }
     ensures { λ r. ⌜ Put (now (buffer .entry)) used (shownText shown ordinal counter latency gap readings statuses totals) (now (buffer .exit)) r ⌝ }
 {
-    let written = text::write_shown(
+    let written = text_line::write_shown(
         &mut buffer[used..],
         shown,
         ordinal,

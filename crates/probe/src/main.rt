@@ -38,7 +38,7 @@ use shown::put_session;
 use shown::put_setup;
 use shown::put_text;
 use shown::put_written;
-use text::Written;
+use text_line::Written;
 ghost use mathlib.Core.Path.{_≡_};
 ghost use Prim.Native.Nat.{_≤_};
 ghost use lib.ListN.{length};

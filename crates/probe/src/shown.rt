@@ -16,7 +16,7 @@ use receiver::Datagram;
 use session::Session;
 use setup::Ruling;
 use setup::Setup;
-use text::Written;
+use text_line::Written;
 use wire::Fields;
 
 pub fn put_text(text: &[u8]) {

@@ -274,18 +274,6 @@ fn sound_by(sensor: Sensor, session: Session) -> bool
     axes_right(kept, datagrams, axes)
 }
 
-// Whether feeding doesn't turn the session down by 10.
-pub fn is_sound(session: Session) -> bool
-    ensures { λ r. ⌜ r ≡ isSound session ⌝ }
-{
-    let setup = session.setup;
-    let described = setup::describe(setup);
-    match described {
-        Described::Accepted(sensor) => sound_by(sensor, session),
-        Described::Refused(number) => false,
-    }
-}
-
 // Whether a session whose setup describes this sensor may be fed a piece of so many bytes.
 fn admit_by(sensor: Sensor, session: Session, length: usize) -> Admission
     requires { ⌜ (rulingOn (session .setup) ≡ Accepted) × (sensor ≡ sensorOf (session .setup)) ⌝ }

@@ -1,17 +1,8 @@
--- The answer and the buffer of a line, case by case in checking order.
+-- The answer and the buffer of a line under a setup.
+use Prim.Native.Nat.{ℕ}
 use mathlib.Core.Path.{_≡_, refl, ap, _∙_}
-use mathlib.Core.Bool.{true, false, not, _||_}
-use mathlib.Core.List.{List, _++_}
-use Prim.Native.Nat.{ℕ, _+_, _≤_, _<_}
-use native.Mathlib.Nat.{zero-add}
-use native.Mathlib.Omega.{arith}
-use borrow.Author.Tests.{not-false, lt-ltb, le-ltb}
-use lib.Dec.{eqb}
+use mathlib.Core.List.{List}
 use lib.IntN.{ℤ}
-use lib.ListN.{length, take, drop}
-use lib.Seq.{take-at}
-use Rattle.integers.proofs.Booleans.{or-split}
-use Rattle.integers.proofs.Buffers.{put-front}
 use Rattle.setup.specs.Setup.{setupRules, rulingOn}
 use Rattle.setup.specs.Sensor.{sensorOf}
 use Rattle.setup.specs.declared.Setup.{Setup}
@@ -21,72 +12,11 @@ use Rattle.setup.proofs.Sensors.{sensor-groups}
 use Rattle.motion.specs.declared.Gap.{Gap}
 use Rattle.motion.specs.declared.Totals.{Totals}
 use Rattle.motion.proofs.AcceptedSetup.{accepted-kept}
-use Rattle.text.specs.Putting.{Put, roomAnswer, roomBuffer}
-use Rattle.text.specs.TextLine.{shownBy, shownOf, shownText, lineText, readingsFit, totalsWithin, outside}
-use Rattle.text.specs.TextLine.{shownRules, shownRuling, shownAnswer, shownBuffer, lineRules, lineRuling, lineAnswer, lineBuffer}
-use Rattle.text.specs.declared.Shown.{Shown}
-use Rattle.text.specs.declared.Written.{Written}
-use Rattle.text.specs.declared.Written.the-variants.{Line, Refused}
-
--- ---- a text and a buffer
-
--- what stands there then is the text
-pub put-taken : {b text b1 : List ℕ} {n : ℕ} → Put b 0 text b1 n → length text ≤ length b → take n b1 ≡ text
-put-taken {b} {text} {b1} {n} p h =
-    rw (p .bytes, put-front b text h) (take-at text (drop (length text) b) n (omega (arith, p .place)))
-
-module _ (b text : List ℕ) where
-  pub room-short : length b < length text → (Refused 14 ≡ roomAnswer b text) × (b ≡ roomBuffer b text)
-  unfolding roomAnswer roomBuffer
-  room-short h = rw (lt-ltb (length b) (length text) h) (refl, refl)
-
-  pub room-enough : length text ≤ length b → (Line (length text) ≡ roomAnswer b text) × (text ++ drop (length text) b ≡ roomBuffer b text)
-  unfolding roomAnswer roomBuffer
-  room-enough h = rw (le-ltb (length b) (length text) h) (refl, refl)
-
--- ---- the line
-
--- what 13 doesn't refuse
-pub inside : (ordinal : ℕ) (readings : List (List ℤ)) (totals : Totals) → outside ordinal readings totals ≡ false
-    → (readingsFit readings ≡ true) × (totalsWithin totals ≡ true) × (eqb ordinal 0 ≡ false)
-unfolding outside
-inside ordinal readings totals e =
-    let r = readingsFit readings in
-    let t = totalsWithin totals in
-    let z = or-split (not r || not t) (eqb ordinal 0) e in
-    let p = or-split (not r) (not t) (z .0) in
-    (not-false r (p .0), not-false t (p .1), z .1)
-
-module _ (b : List ℕ) (shown : Shown) (ordinal counter latency : ℕ) (gap : Gap) (readings : List (List ℤ)) (statuses : List ℕ) (totals : Totals) where
-  abbrev text : List ℕ
-  text = shownText shown ordinal counter latency gap readings statuses totals
-
-  abbrev answer : Written
-  answer = shownAnswer b shown ordinal counter latency gap readings statuses totals
-
-  abbrev buffer : List ℕ
-  buffer = shownBuffer b shown ordinal counter latency gap readings statuses totals
-
-  pub values-refused : outside ordinal readings totals ≡ true → (Refused 13 ≡ answer) × (b ≡ buffer)
-  unfolding shownAnswer shownBuffer shownRuling shownRules
-  values-refused h = rw h (refl, refl)
-
-  module _ (h : outside ordinal readings totals ≡ false) where
-    -- only 14 is left to refuse it
-    pub room-left : (roomAnswer b text ≡ answer) × (roomBuffer b text ≡ buffer)
-    unfolding shownAnswer shownBuffer shownRuling shownRules roomAnswer roomBuffer
-    room-left = rw h (refl, refl)
-
-    -- what is copied there, and what is put there
-    pub apart-written : {r : Written} {b1 : List ℕ} → (r ≡ roomAnswer b text) × (b1 ≡ roomBuffer b text) → (r ≡ answer) × (b1 ≡ buffer)
-    apart-written p = (p .0 ∙ room-left .0, p .1 ∙ room-left .1)
-
-    pub put-written : {b1 : List ℕ} {n : ℕ} → length text ≤ length b → Put b 0 text b1 n → (Line n ≡ answer) × (b1 ≡ buffer)
-    put-written l p =
-        let q = room-enough b text l in
-        (ap Line (p .place ∙ zero-add (length text)) ∙ q .0 ∙ room-left .0, p .bytes ∙ put-front b text l ∙ q .1 ∙ room-left .1)
-
--- ---- the line under a setup
+use Rattle.text_line.specs.ShownLine.{shownRuling, shownAnswer, shownBuffer}
+use Rattle.text_line.specs.declared.Shown.{Shown}
+use Rattle.text_line.specs.declared.Written.{Written}
+use Rattle.text_line.specs.declared.Written.the-variants.{Refused}
+use Rattle.text.specs.TextLine.{shownBy, shownOf, lineText, lineRules, lineRuling, lineAnswer, lineBuffer}
 
 -- the sensor that an accepted setup describes shows what the setup shows
 pub sensor-shown : (u : Setup) → rulingOn u ≡ ruling.the-variants.Accepted → shownOf (sensorOf u .row) (sensorOf u .units) ≡ shownBy u
@@ -108,3 +38,13 @@ module _ (b : List ℕ) (setup : Setup) (ordinal counter latency : ℕ) (gap : G
     pub accepted-buffer : shownBuffer b (shownBy setup) ordinal counter latency gap readings statuses totals ≡ lineBuffer b setup ordinal counter latency gap readings statuses totals
     unfolding lineBuffer lineRuling lineRules lineText rulingOn shownBuffer shownRuling
     accepted-buffer = rw (first-accepted (setupRules setup) _ e)
+
+    -- so what is written of a sensor that shows the same is the setup's line
+    pub line-written :
+        {shown : Shown} {r : Written} {b1 : List ℕ} → shown ≡ shownBy setup
+        → (r ≡ shownAnswer b shown ordinal counter latency gap readings statuses totals) × (b1 ≡ shownBuffer b shown ordinal counter latency gap readings statuses totals)
+        → (r ≡ lineAnswer b setup ordinal counter latency gap readings statuses totals) × (b1 ≡ lineBuffer b setup ordinal counter latency gap readings statuses totals)
+    line-written s w = (
+      w .0 ∙ ap (λ (x : Shown). shownAnswer b x ordinal counter latency gap readings statuses totals) s ∙ accepted-answer,
+      w .1 ∙ ap (λ (x : Shown). shownBuffer b x ordinal counter latency gap readings statuses totals) s ∙ accepted-buffer,
+    )

@@ -1,10 +1,4 @@
 -- Laws that belong to no one function. Other crates cite them as Rattle.text.proofs.NAME.
-pub mod Digits
-pub mod Putting
-pub mod Fields
-pub mod Elements
 pub mod Answers
-pub mod Longest
 pub mod LineLaws
-pub mod Parting
 pub mod Examples

@@ -7,7 +7,7 @@ use native.Mathlib.Omega.{arith}
 use borrow.Author.Needs.{needs}
 use lib.ListN.{length}
 use lib.Seq.{sets, length-sets}
-use Rattle.text.specs.TextLine.{outside, longestLine}
+use Rattle.text_line.specs.ShownLine.{outside, longestLine}
 use Rattle.search.specs.Search.{limitsOf}
 use Rattle.session.proofs.Soundness.{sound-facts}
 use Rattle.session.proofs.PieceRulings.{Admitted, admitted}

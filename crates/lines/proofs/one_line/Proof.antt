@@ -15,7 +15,8 @@ use Rattle.wire.specs.Fields.{Contents, contentsOf, fieldsOf}
 use Rattle.wire.proofs.FieldBytes.{sensor-fields}
 use Rattle.motion.specs.Totals.{groupsKept, totalsOf}
 use Rattle.motion.proofs.AcceptedSetup.{accepted-gap}
-use Rattle.text.specs.TextLine.{shownBy, shownText, outside, longestLine}
+use Rattle.text_line.specs.ShownLine.{shownText, outside, longestLine}
+use Rattle.text.specs.TextLine.{shownBy}
 use Rattle.search.proofs.Datagrams.{datagram-length}
 use Rattle.history.specs.History.{awaitsFirst, gapNext, historyNext, advanced}
 use Rattle.history.specs.declared.History.{History}

@@ -1,9 +1,8 @@
 use mathlib.Core.Path.{_≡_, sym, ap, _∙_}
 use Rattle.setup.specs.declared.Sensor.{Sensor}
 use Rattle.setup.proofs.Sensors.{described-accepted, described-refused}
-use Rattle.text.specs.TextLine.{shownBy, shownOf, shownAnswer, shownBuffer}
-use Rattle.text.specs.declared.Shown.{Shown}
-use Rattle.text.proofs.Answers.{sensor-shown, setup-refused, accepted-answer, accepted-buffer}
+use Rattle.text.specs.TextLine.{shownBy, shownOf}
+use Rattle.text.proofs.Answers.{sensor-shown, setup-refused, line-written}
 use borrow.Author.Needs.{needs}
 use Rattle.text.proofs.write_line.Statement.{statement}
 use Rattle.text.proofs.write_line.Tie as tie
@@ -35,14 +34,8 @@ returns c =
     let a = d .before .before .args in
     let p = described-accepted (a .setup) (sym (d .describe .ensures) ∙ m .described .given .1) in
     let shows : s .shown-of .result ≡ shownBy (a .setup) =
-    s .shown-of .ensures ∙ ap (λ (x : Sensor). shownOf (x .row) (x .units)) (p .1) ∙ sensor-shown (a .setup) (p .0) in (
-      w .write-shown .ensures .0
-          ∙ ap (λ (shown : Shown). shownAnswer (a .buffer .now) shown (a .ordinal) (a .counter) (a .latency) (a .gap) (a .readings) (a .statuses) (a .totals)) shows
-          ∙ accepted-answer (a .buffer .now) (a .setup) (a .ordinal) (a .counter) (a .latency) (a .gap) (a .readings) (a .statuses) (a .totals) (p .0),
-      w .write-shown .ensures .1
-          ∙ ap (λ (shown : Shown). shownBuffer (a .buffer .now) shown (a .ordinal) (a .counter) (a .latency) (a .gap) (a .readings) (a .statuses) (a .totals)) shows
-          ∙ accepted-buffer (a .buffer .now) (a .setup) (a .ordinal) (a .counter) (a .latency) (a .gap) (a .readings) (a .statuses) (a .totals) (p .0),
-    )
+    s .shown-of .ensures ∙ ap (λ (x : Sensor). shownOf (x .row) (x .units)) (p .1) ∙ sensor-shown (a .setup) (p .0) in
+    line-written (a .buffer .now) (a .setup) (a .ordinal) (a .counter) (a .latency) (a .gap) (a .readings) (a .statuses) (a .totals) (p .0) shows (w .write-shown .ensures)
 
 returns-2 : tie.Need-returns-2
 returns-2 c =

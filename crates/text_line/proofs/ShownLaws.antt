@@ -1,0 +1,83 @@
+-- What 01 says of the answer and of the lent buffer, of every line that is shown: the numbers that refuse it, what a refusal and a
+-- written line leave, and how long a buffer has to be.
+use mathlib.Core.Path.{_≡_, refl, sym, ap, _∙_}
+use mathlib.Core.Bool.{Bool, true, false}
+use mathlib.Core.List.{List, [], _∷_, _++_}
+use Prim.Native.Nat.{ℕ, _≤_, _<_}
+use native.Mathlib.Omega.{arith}
+use lib.Dec.{ltb}
+use lib.IntN.{ℤ}
+use lib.ListN.{length, drop}
+use Rattle.setup.specs.Setup.{rule, firstOf}
+use Rattle.setup.specs.declared.Ruling as ruling
+use Rattle.setup.specs.declared.Ruling.{Ruling}
+use Rattle.setup.proofs.Rules.{first-within}
+use Rattle.motion.specs.declared.Gap.{Gap}
+use Rattle.motion.specs.declared.Totals.{Totals}
+use Rattle.text_line.specs.ShownLine.{shownText, outside, shownRules, writtenBy, shownRuling, shownAnswer, shownBuffer}
+use Rattle.text_line.specs.declared.Shown.{Shown}
+use Rattle.text_line.specs.declared.Written.{Written}
+use Rattle.text_line.specs.declared.Written.the-variants.{Line, Refused}
+use Rattle.text_line.proofs.Answers.{room-short, room-enough, room-left}
+
+-- ---- from an answer to the ruling
+
+pub refused-by : (j : Ruling) (t : List ℕ) {n : ℕ} → writtenBy j t ≡ Refused n → j ≡ ruling.the-variants.Refused n
+refused-by ruling.the-variants.Accepted t e = let z : _≡_ {A = ℕ} 0 1 = cc in absurd (omega arith)
+refused-by (ruling.the-variants.Refused m) t {n} e = let s : m ≡ n = cc in ap ruling.the-variants.Refused s
+
+pub written-by : (j : Ruling) (t : List ℕ) {n : ℕ} → writtenBy j t ≡ Line n → (j ≡ ruling.the-variants.Accepted) × (n ≡ length t)
+written-by ruling.the-variants.Accepted t {n} e = let s : n ≡ length t = cc in (refl, s)
+written-by (ruling.the-variants.Refused m) t e = let z : _≡_ {A = ℕ} 0 1 = cc in absurd (omega arith)
+
+-- ---- the rules of a line
+
+-- 14 alone refuses: 13 doesn't
+pub last-fourteen : (o t : Bool) → firstOf (rule 13 o ∷ rule 14 t ∷ []) ≡ ruling.the-variants.Refused 14 → (o ≡ false) × (t ≡ true)
+last-fourteen true t e = let s : _≡_ {A = ℕ} 13 14 = cc in absurd (omega arith)
+last-fourteen false true e = (refl, refl)
+last-fourteen false false e = let z : _≡_ {A = ℕ} 0 1 = cc in absurd (omega arith)
+
+pub last-numbers : (o t : Bool) {n : ℕ} → firstOf (rule 13 o ∷ rule 14 t ∷ []) ≡ ruling.the-variants.Refused n → (13 ≤ n) × (n ≤ 14)
+last-numbers o t e = first-within 13 14 (rule 13 o ∷ rule 14 t ∷ []) (omega arith, omega arith, (omega arith, omega arith, tt)) e
+
+-- ---- a line by what is shown
+
+module _ (b : List ℕ) (shown : Shown) (ordinal counter latency : ℕ) (gap : Gap) (readings : List (List ℤ)) (statuses : List ℕ) (totals : Totals) where
+  abbrev shown-text : List ℕ
+  shown-text = shownText shown ordinal counter latency gap readings statuses totals
+
+  abbrev shown-ruling : Ruling
+  shown-ruling = shownRuling b shown ordinal counter latency gap readings statuses totals
+
+  abbrev shown-answer : Written
+  shown-answer = shownAnswer b shown ordinal counter latency gap readings statuses totals
+
+  abbrev shown-buffer : List ℕ
+  shown-buffer = shownBuffer b shown ordinal counter latency gap readings statuses totals
+
+  -- it is refused by 13 and 14 only, and a refusal writes nothing
+  pub shown-numbers : {n : ℕ} → shown-answer ≡ Refused n → (13 ≤ n) × (n ≤ 14)
+  unfolding shownAnswer shownRuling shownRules
+  shown-numbers e = last-numbers (outside ordinal readings totals) (ltb (length b) (length shown-text)) (refused-by shown-ruling shown-text e)
+
+  pub shown-keeps : {n : ℕ} → shown-answer ≡ Refused n → shown-buffer ≡ b
+  unfolding shownAnswer shownBuffer
+  shown-keeps e = rw (refused-by shown-ruling shown-text e)
+
+  -- a written line tells its length, and alters only its own bytes, from the front
+  pub shown-tells : {n : ℕ} → shown-answer ≡ Line n → n ≡ length shown-text
+  unfolding shownAnswer
+  shown-tells e = written-by shown-ruling shown-text e .1
+
+  pub shown-front : {n : ℕ} → shown-answer ≡ Line n → shown-buffer ≡ shown-text ++ drop n b
+  unfolding shownAnswer shownBuffer
+  shown-front e = let w = written-by shown-ruling shown-text e in rw (w .0, w .1)
+
+  -- a buffer as long as the line is enough, and one that is shorter isn't
+  module _ (h : outside ordinal readings totals ≡ false) where
+    pub shown-enough : length shown-text ≤ length b → shown-answer ≡ Line (length shown-text)
+    shown-enough l = sym (room-enough b shown-text l .0 ∙ room-left b shown ordinal counter latency gap readings statuses totals h .0)
+
+    pub shown-short : length b < length shown-text → shown-answer ≡ Refused 14
+    shown-short l = sym (room-short b shown-text l .0 ∙ room-left b shown ordinal counter latency gap readings statuses totals h .0)

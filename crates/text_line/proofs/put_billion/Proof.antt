@@ -1,0 +1,44 @@
+use borrow.Author.Needs.{needs}
+use native.Mathlib.Omega.{arith}
+use Rattle.text_line.proofs.Putting.{room-thousands, room-three, then-three}
+use Rattle.text_line.proofs.put_billion.Statement.{statement}
+use Rattle.text_line.proofs.put_billion.Tie as tie
+
+put-million-requires : tie.Need-put-million-requires
+put-million-requires c κs = search needs
+
+same-length : tie.Need-same-length
+same-length c = search needs
+
+returns : tie.Need-returns
+returns c = search needs
+
+put-million-requires-2 : tie.Need-put-million-requires-2
+put-million-requires-2 c κs = let s = c .before .before .before in (omega arith, room-thousands (s .args .n) (omega arith) (s .args .at) (s .pre .1))
+
+put-three-requires : tie.Need-put-three-requires
+put-three-requires c κs =
+    let thousands = c .before .before .before in
+    let s = thousands .before .before .before .before in
+    room-three (s .args .n) (omega (arith, thousands .before .before .if1 .left)) (thousands .put-million2 .ensures) (s .pre .1)
+
+same-length-2 : tie.Need-same-length-2
+same-length-2 c = search needs
+
+returns-2 : tie.Need-returns-2
+returns-2 c =
+    let thousands = c .before .before .before .before .before .before in
+    let s = thousands .before .before .before .before in
+    then-three (s .args .n) (omega (arith, thousands .before .before .if1 .left)) (thousands .put-million2 .ensures) (c .before .before .put-three .ensures)
+
+pub put-billion-spec : {M : Type 1} → statement M
+put-billion-spec =
+    tie.close
+    (tie.spec
+    put-million-requires
+    same-length
+    returns
+    put-million-requires-2
+    put-three-requires
+    same-length-2
+    returns-2)
