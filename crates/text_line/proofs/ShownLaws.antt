@@ -81,3 +81,13 @@ module _ (b : List ℕ) (shown : Shown) (ordinal counter latency : ℕ) (gap : G
 
     pub shown-short : length b < length shown-text → shown-answer ≡ Refused 14
     shown-short l = sym (room-short b shown-text l .0 ∙ room-left b shown ordinal counter latency gap readings statuses totals h .0)
+
+    -- what a call with so much room gives back: the line's length, and the line at the front of the buffer
+    pub shown-written :
+        {r : Written} {b1 : List ℕ} → (r ≡ shown-answer) × (b1 ≡ shown-buffer) → length shown-text ≤ length b
+        → (r ≡ Line (length shown-text)) × (b1 ≡ shown-text ++ drop (length shown-text) b)
+    shown-written w l = (w .0 ∙ shown-enough l, w .1 ∙ shown-front (shown-enough l))
+
+-- an answer tells one length
+pub line-length : {r : Written} {m n : ℕ} → r ≡ Line m → r ≡ Line n → m ≡ n
+line-length e f = cc

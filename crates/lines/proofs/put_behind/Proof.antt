@@ -1,6 +1,6 @@
 -- `lines::put_behind` meets its contract: write_shown has room, and refuses nothing. Assumes nothing.
 use Prim.Native.Nat.{ℕ, _-_, _≤_}
-use mathlib.Core.Path.{_≡_, sym, ap, _∙_}
+use mathlib.Core.Path.{_≡_, ap, _∙_}
 use mathlib.Core.List.{List, _++_}
 use native.Mathlib.Omega.{arith}
 use borrow.Author.Needs.{needs}
@@ -8,7 +8,7 @@ use borrow.Rule.Slice.PartMut.{putMid}
 use lib.ListN.{length, take, drop, length-drop}
 use Rattle.text_line.specs.ShownLine.{shownText}
 use Rattle.text_line.specs.declared.Written.the-variants.{Line}
-use Rattle.text_line.proofs.ShownLaws.{shown-tells, shown-front, shown-enough}
+use Rattle.text_line.proofs.ShownLaws.{shown-written, line-length}
 use Rattle.integers.proofs.Buffers.{to-end, put-part}
 use Rattle.lines.proofs.put_behind.Statement.{statement}
 use Rattle.lines.proofs.put_behind.Tie as tie
@@ -24,26 +24,17 @@ room : (s : tie.Start) → length (line s) ≤ length (part s)
 room s = omega (arith, ap length (to-end (s .args .buffer .now) (s .args .used)), length-drop (s .args .used) (s .args .buffer .now), s .pre .1)
 
 -- the line is written there
-answered : (c : tie.After-write-shown) → c .write-shown .result ≡ Line (length (line (c .before .before .before)))
-answered c =
+written : (c : tie.After-write-shown) →
+    let s = c .before .before .before in
+    (c .write-shown .result ≡ Line (length (line s))) × (c .write-shown .last .0 ≡ line s ++ drop (length (line s)) (part s))
+written c =
     let s = c .before .before .before in
     let a = s .args in
-    c .write-shown .ensures .0
-    ∙ shown-enough (part s) (a .shown) (a .ordinal) (a .counter) (a .latency) (a .gap) (a .readings) (a .statuses) (a .totals) (s .pre .0) (room s)
-
-placed : (c : tie.After-write-shown) → c .write-shown .last .0 ≡ line (c .before .before .before) ++ drop (length (line (c .before .before .before))) (part (c .before .before .before))
-placed c =
-    let s = c .before .before .before in
-    let a = s .args in
-    c .write-shown .ensures .1
-    ∙ shown-front (part s) (a .shown) (a .ordinal) (a .counter) (a .latency) (a .gap) (a .readings) (a .statuses) (a .totals) (sym (c .write-shown .ensures .0) ∙ answered c)
+    shown-written (part s) (a .shown) (a .ordinal) (a .counter) (a .latency) (a .gap) (a .readings) (a .statuses) (a .totals) (s .pre .0) (c .write-shown .ensures)
+    (room s)
 
 told : (c : tie.After-known-told) → c .before .written .given .0 .0 ≡ length (line (c .before .before .before .before .before .before .before .before))
-told c =
-    let s = c .before .before .before .before .before .before .before .before in
-    let a = s .args in
-    shown-tells (part s) (a .shown) (a .ordinal) (a .counter) (a .latency) (a .gap) (a .readings) (a .statuses) (a .totals)
-    (sym (c .before .before .before .before .before .write-shown .ensures .0) ∙ c .before .written .given .1)
+told c = line-length (c .before .written .given .1) (written (c .before .before .before .before .before) .0)
 
 sub-write-shown : tie.Need-sub-write-shown
 sub-write-shown c = search needs
@@ -76,7 +67,7 @@ returns c =
     let used = s .args .used in
     record {
       place = omega (arith, told c);
-      bytes = ap (putMid used (length b - used) b) (placed (c .before .before .before .before .before)) ∙ put-part b (line s) used (s .pre .1);
+      bytes = ap (putMid used (length b - used) b) (written (c .before .before .before .before .before) .1) ∙ put-part b (line s) used (s .pre .1);
     }
 
 same-length-2 : tie.Need-same-length-2
@@ -84,7 +75,7 @@ same-length-2 c = search needs
 
 returns-2 : tie.Need-returns-2
 returns-2 c =
-    let x = answered (c .before .before .before .before .before) in
+    let x = written (c .before .before .before .before .before) .0 in
     let y = c .before .written2 .given .1 in
     absurd (let z : _≡_ {A = ℕ} 0 1 = cc in omega arith)
 
