@@ -13,24 +13,24 @@ use setup::Setup;
 ghost use Prim.Native.Nat.{_≤_};
 
 // The byte at a place, 0 behind the end.
-pub fn byte_at(s: &[u8], i: usize) -> u8 {
+pub(crate) fn byte_at(s: &[u8], i: usize) -> u8 {
     if i < s.len() { s[i] } else { 0 }
 }
 
 // The numbers at a place.
-pub fn u16_at(s: &[u8], i: usize) -> u16
+pub(crate) fn u16_at(s: &[u8], i: usize) -> u16
     requires { ⌜ i ≤ 5000 ⌝ }
 {
     byte_at(s, i) as u16 + byte_at(s, i + 1) as u16 * 256
 }
 
-pub fn u32_at(s: &[u8], i: usize) -> u32
+pub(crate) fn u32_at(s: &[u8], i: usize) -> u32
     requires { ⌜ i ≤ 4990 ⌝ }
 {
     u16_at(s, i) as u32 + u16_at(s, i + 2) as u32 * 65536
 }
 
-pub fn u64_at(s: &[u8], i: usize) -> u64
+pub(crate) fn u64_at(s: &[u8], i: usize) -> u64
     requires { ⌜ i ≤ 4980 ⌝ }
 {
     u32_at(s, i) as u64 + u32_at(s, i + 4) as u64 * 4294967296
@@ -74,7 +74,7 @@ fn three_at(s: &[u8], i: usize) -> [u16; 3]
 }
 
 // The setup of a record.
-pub fn setup_of(s: &[u8]) -> Setup {
+pub(crate) fn setup_of(s: &[u8]) -> Setup {
     let units = three_at(s, 5);
     let shifts = three_at(s, 11);
     Setup {
@@ -119,7 +119,7 @@ fn group_axes_at(s: &[u8], i: usize) -> GroupAxes
     }
 }
 
-pub fn session_of(s: &[u8]) -> Session {
+pub(crate) fn session_of(s: &[u8]) -> Session {
     let setup = setup_of(s);
     let held = held_of(s);
     let axes = Axes {
@@ -162,7 +162,7 @@ fn group_totals_at(s: &[u8], i: usize) -> GroupTotals
     }
 }
 
-pub fn totals_of(s: &[u8]) -> Totals {
+pub(crate) fn totals_of(s: &[u8]) -> Totals {
     Totals {
         gyro: group_totals_at(s, 76),
         accelerometer: group_totals_at(s, 103),
@@ -170,7 +170,7 @@ pub fn totals_of(s: &[u8]) -> Totals {
     }
 }
 
-pub fn gap_of(s: &[u8]) -> Gap {
+pub(crate) fn gap_of(s: &[u8]) -> Gap {
     if mark_at(s, 28) {
         return Gap::OffStep;
     }
@@ -183,10 +183,10 @@ fn row_at(s: &[u8], i: usize) -> [i32; 3]
     [i32_at(s, i), i32_at(s, i + 4), i32_at(s, i + 8)]
 }
 
-pub fn grid_of(s: &[u8]) -> [[i32; 3]; 3] {
+pub(crate) fn grid_of(s: &[u8]) -> [[i32; 3]; 3] {
     [row_at(s, 37), row_at(s, 49), row_at(s, 61)]
 }
 
-pub fn statuses_of(s: &[u8]) -> [u8; 3] {
+pub(crate) fn statuses_of(s: &[u8]) -> [u8; 3] {
     [byte_at(s, 73), byte_at(s, 74), byte_at(s, 75)]
 }

@@ -19,15 +19,15 @@ use setup::Setup;
 use text_line::Written;
 use wire::Fields;
 
-pub fn put_text(text: &[u8]) {
+pub(crate) fn put_text(text: &[u8]) {
     io::write_all(STDOUT_FILENO, text);
 }
 
-pub fn end_line() {
+pub(crate) fn end_line() {
     put_text(b"\n");
 }
 
-pub fn put_number(n: u64) {
+pub(crate) fn put_number(n: u64) {
     put_text(b" ");
     io::print_decimal(STDOUT_FILENO, n);
 }
@@ -58,7 +58,7 @@ fn put_byte(b: u8) {
     io::print_hex(STDOUT_FILENO, b as u64, 2);
 }
 
-pub fn put_bytes(bytes: &[u8]) {
+pub(crate) fn put_bytes(bytes: &[u8]) {
     put_text(b" ");
     let mut i: usize = 0;
     while i < bytes.len() {
@@ -110,7 +110,7 @@ fn put_row(row: [i32; 3]) {
     put_reading(row[2]);
 }
 
-pub fn put_setup(setup: Setup) {
+pub(crate) fn put_setup(setup: Setup) {
     let units = setup.units;
     let shifts = setup.shifts;
     put_number(setup.rate as u64);
@@ -139,7 +139,7 @@ fn put_axes(axes: Axes) {
 }
 
 // A line with every field of a session.
-pub fn put_session(session: Session) {
+pub(crate) fn put_session(session: Session) {
     let held = session.held;
     let history = session.history;
     put_text(b"session");
@@ -243,7 +243,7 @@ fn put_readings(datagram: Datagram) {
 }
 
 // A line with every field of a datagram.
-pub fn put_datagram(datagram: Datagram) {
+pub(crate) fn put_datagram(datagram: Datagram) {
     let flagged = datagram.flagged;
     let gap = datagram.gap;
     put_text(b"datagram");
@@ -262,14 +262,14 @@ fn put_refused(number: u8) {
     put_number(number as u64);
 }
 
-pub fn put_ruling(ruling: Ruling) {
+pub(crate) fn put_ruling(ruling: Ruling) {
     match ruling {
         Ruling::Accepted => put_text(b" accepted"),
         Ruling::Refused(number) => put_refused(number),
     }
 }
 
-pub fn put_answer(answer: Answer) {
+pub(crate) fn put_answer(answer: Answer) {
     match answer {
         Answer::Datagram => put_text(b" datagram"),
         Answer::Waiting => put_text(b" waiting"),
@@ -282,14 +282,14 @@ fn put_count(count: usize) {
     put_number(count as u64);
 }
 
-pub fn put_written(written: Written) {
+pub(crate) fn put_written(written: Written) {
     match written {
         Written::Line(count) => put_count(count),
         Written::Refused(number) => put_refused(number),
     }
 }
 
-pub fn put_received(received: Received) {
+pub(crate) fn put_received(received: Received) {
     match received {
         Received::Lines(count) => put_count(count),
         Received::Refused(number) => put_refused(number),
