@@ -1,6 +1,6 @@
 -- `session::sound_by` meets its contract. Assumes nothing.
 use mathlib.Core.Path.{_≡_, sym, ap, _∙_}
-use mathlib.Core.Bool.{true, _&&_}
+use mathlib.Core.Bool.{Bool, true, _&&_}
 use Prim.Native.Nat.{ℕ, _≤_}
 use native.Mathlib.Omega.{arith}
 use lib.Dec.{leb}
@@ -17,6 +17,7 @@ use Rattle.motion.specs.Totals.{groupsKept, keptBy}
 use Rattle.motion.proofs.AcceptedSetup.{accepted-kept}
 use Rattle.scan.specs.OneLength.{heldRule}
 use Rattle.search.specs.Search.{limitsOf, rulesOf}
+use Rattle.session.specs.declared.Session.{Session}
 use Rattle.session.specs.Session.{heldBytes, heldRight, restRight, sumRight, fedRight}
 use Rattle.session.proofs.Soundness.{in-parts, counts-few}
 use borrow.Author.Needs.{needs}
@@ -42,15 +43,15 @@ unfolding sensorOf
 identifier c = ap (λ (x : Sensor). x .identifier) (c .pre .1)
 
 -- what the tests tell
+held-by :
+    (t : Session) {i size : ℕ} {r : Bool} → i ≡ t .setup .identifier → size ≡ lengthOf (t .setup)
+    → r ≡ ((leb (t .count) (length (t .held)) && heldRule i size (heldBytes t)) && restRight t) → r ≡ (heldRight t && restRight t)
+held-by t e f h = h ∙ (λ k. (leb (t .count) (length (t .held)) && heldRule (e k) (f k) (heldBytes t)) && restRight t)
+
 held : (c : tie.After-held-right) →
     let s = from-length (c .before) .args .session in
     c .held-right .result ≡ (heldRight s && restRight s)
-held c =
-    let s = from-length (c .before) in
-    let t = s .args .session in
-    rw (← size (c .before))
-    (c .held-right .ensures
-    ∙ ap (λ (i : ℕ). (leb (t .count) (length (t .held)) && heldRule i (c .before .length-of .result) (heldBytes t)) && restRight t) (identifier s))
+held c = let s = from-length (c .before) in held-by (s .args .session) (identifier s) (size (c .before)) (c .held-right .ensures)
 
 held-here : (c : tie.Else1) → let s = from-length (c .before .before) .args .session in (heldRight s && restRight s) ≡ true
 held-here c = sym (held (c .before)) ∙ not-false (c .before .held-right .result) (c .if1 .left)
