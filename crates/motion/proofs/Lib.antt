@@ -1,9 +1,7 @@
 -- Laws of the rules, which other crates cite as Rattle.motion.proofs.NAME.
 pub mod Status
-pub mod Doubles
 pub mod Gaps
 pub mod TrueChange
 pub mod Bounds
 pub mod NineAxes
 pub mod AcceptedSetup
-pub mod Starred

@@ -7,14 +7,11 @@ use Prim.Native.Nat.{ℕ, _<_}
 use lib.IntN.{ℤ}
 use lib.ListN.{getD}
 use Rattle.setup.specs.declared.Setup.{Setup}
-use Rattle.setup.specs.declared.Units.{Units}
-use Rattle.setup.specs.declared.Shifts.{Shifts}
 use Rattle.setup.proofs.Refusals.{each}
 use Rattle.motion.specs.declared.GroupAxes.{GroupAxes}
 use Rattle.motion.specs.declared.Axes.{Axes}
-use Rattle.motion.specs.Doubles.{shiftIn, valuesAt, groupValues, valuesFor}
 use Rattle.motion.specs.Totals.{noAxis, noAxes, keptStep, keeps, groupsKept, seenIn, seen, groupStep, stepped, axisIn, axisAt}
-use Rattle.motion.specs.Totals.{totalOf, totalsOf, totalAt, totalDouble, totalDoubles, doubleAt}
+use Rattle.motion.specs.Totals.{totalOf, totalsOf, totalAt}
 
 -- what holds of each of the nine axes holds of an axis of a group
 pub each-axis : (P : ℕ → ℕ → Type 0) → P 0 0 × P 0 1 × P 0 2 → P 1 0 × P 1 1 × P 1 2 → P 2 0 × P 2 1 × P 2 2
@@ -28,13 +25,6 @@ step-in : (kept : Bool) (g : GroupAxes) (readings : List ℤ) (status axis : ℕ
 unfolding groupStep
 step-in kept g readings status =
     each (λ axis. axisIn (groupStep kept g readings status) axis ≡ keptStep kept (axisIn g axis) (seenIn status readings axis)) refl refl refl
-
--- the values of a group
-pub values-at : (units : Units) (shifts : Shifts) (readings : List (List ℤ)) (group : ℕ) → group < 3
-    → valuesFor (groupValues units shifts readings) group ≡ valuesAt units shifts readings group
-unfolding groupValues
-values-at units shifts readings =
-    each (λ n. valuesFor (groupValues units shifts readings) n ≡ valuesAt units shifts readings n) refl refl refl
 
 -- an axis after a datagram
 pub step-at : (kept : List Bool) (a : Axes) (readings : List (List ℤ)) (statuses : List ℕ) (group axis : ℕ) → group < 3 → axis < 3
@@ -57,15 +47,8 @@ kept-at s = each (λ n. getD (groupsKept s) n false ≡ keeps s n) refl refl ref
 pub none-at : (group axis : ℕ) → group < 3 → axis < 3 → axisAt noAxes group axis ≡ noAxis
 none-at = each-axis (λ n m. axisAt noAxes n m ≡ noAxis) (refl, refl, refl) (refl, refl, refl) (refl, refl, refl)
 
--- the total and the double of an axis, as they come back
+-- the total of an axis, as it comes back
 pub total-at : (a : Axes) (group axis : ℕ) → group < 3 → axis < 3 → totalAt (totalsOf a) group axis ≡ totalOf (axisAt a group axis)
 unfolding totalsOf
 total-at a =
     each-axis (λ n m. totalAt (totalsOf a) n m ≡ totalOf (axisAt a n m)) (refl, refl, refl) (refl, refl, refl) (refl, refl, refl)
-
-pub double-at : (s : Shifts) (a : Axes) (group axis : ℕ) → group < 3 → axis < 3
-    → doubleAt (totalDoubles s a) group axis ≡ totalDouble (axisAt a group axis) (shiftIn s group)
-unfolding totalDoubles
-double-at s a =
-    each-axis (λ n m. doubleAt (totalDoubles s a) n m ≡ totalDouble (axisAt a n m) (shiftIn s n)) (refl, refl, refl) (refl, refl, refl)
-    (refl, refl, refl)

@@ -1,10 +1,9 @@
 -- 01, Totals: the total of an axis over the datagrams handed out, and what demand 3 says of it.
-use Prim.Native.Nat.{ℕ, _-_, _*_, _^_, _<_}
+use Prim.Native.Nat.{ℕ, zero, suc, _-_, _*_, _^_, _<_}
 use mathlib.Core.Bool.{Bool, true, false, _&&_, cond}
 use mathlib.Core.List.{List, [], _∷_}
 use mathlib.Core.Path.{_≡_}
 use lib.Dec.{eqb}
-use lib.Ieee.{Float}
 use lib.IntN.{ℤ, pos, natAbs, _+ℤ_, _-ℤ_, _*ℤ_}
 use lib.ListN.{length, take, getD}
 use Rattle.integers.specs.Rounding.{floor}
@@ -12,20 +11,18 @@ use Rattle.integers.specs.Folding.{fold}
 use Rattle.integers.specs.Ranges.{within}
 use Rattle.setup.specs.Layout.{groupsOf, groupsCarried}
 use Rattle.setup.specs.Setup.{unitNumber}
+use Rattle.setup.specs.Sensor.{unitsIn}
 use Rattle.setup.specs.declared.Setup.{Setup}
 use Rattle.setup.specs.declared.Row.{Row}
+use Rattle.setup.specs.declared.Unit as unit
 use Rattle.setup.specs.declared.Units.{Units}
-use Rattle.setup.specs.declared.Shifts.{Shifts}
 use Rattle.motion.specs.Status.{fit}
-use Rattle.motion.specs.Doubles.{quotient, plusZero, knownShift, oneOf, unitIn, shiftIn}
 use Rattle.motion.specs.declared.Axis.{Axis}
 use Rattle.motion.specs.declared.GroupAxes.{GroupAxes}
 use Rattle.motion.specs.declared.Axes.{Axes}
 use Rattle.motion.specs.declared.Total.{Total}
 use Rattle.motion.specs.declared.GroupTotals.{GroupTotals}
 use Rattle.motion.specs.declared.Totals.{Totals}
-use Rattle.motion.specs.declared.GroupDoubles.{GroupDoubles}
-use Rattle.motion.specs.declared.TotalDoubles.{TotalDoubles}
 
 -- ---- one axis
 
@@ -66,6 +63,10 @@ noGroup = record { x = noAxis; y = noAxis; z = noAxis }
 abbrev pub noAxes : Axes
 noAxes = record { gyro = noGroup; accelerometer = noGroup; inclinometer = noGroup }
 
+-- the unit of a group
+abbrev pub unitIn : Units → ℕ → unit.Unit
+unitIn u group = getD (unitsIn u) group unit.the-variants.Instantaneous
+
 -- a total is kept for each axis of a carried group set to integrated
 abbrev pub keeps : Setup → ℕ → Bool
 keeps s group = getD (groupsCarried (s .identifier)) group false && eqb (getD (s .units) group 0) 3
@@ -104,6 +105,12 @@ stepped kept a readings statuses =
       inclinometer = groupStep (getD kept 2 false) (a .inclinometer) (getD readings 2 []) (getD statuses 2 0);
     }
 
+-- one of three by its number: of the groups gyro 0, accelerometer 1, inclinometer 2, of the axes X 0, Y 1, Z 2
+abbrev pub oneOf : {A : Type 0} → A → A → A → ℕ → A
+oneOf a b c zero = a
+oneOf a b c (suc zero) = b
+oneOf a b c (suc (suc n)) = c
+
 -- the axis of a group
 abbrev pub axisIn : GroupAxes → ℕ → Axis
 axisIn g axis = oneOf (g .x) (g .y) (g .z) axis
@@ -122,42 +129,12 @@ groupTotals g = record { x = totalOf (g .x); y = totalOf (g .y); z = totalOf (g 
 unfoldable pub totalsOf : Axes → Totals
 totalsOf a = record { gyro = groupTotals (a .gyro); accelerometer = groupTotals (a .accelerometer); inclinometer = groupTotals (a .inclinometer) }
 
--- total / 2 ^ shift; +0 for a total beyond the greatest
-unfoldable pub totalDouble : Axis → ℕ → Float
-totalDouble a shift = cond (within greatestTotal (a .total)) (quotient (a .total) (knownShift shift)) plusZero
-
-unfoldable pub groupDoubles : GroupAxes → ℕ → GroupDoubles
-groupDoubles g shift = record { x = totalDouble (g .x) shift; y = totalDouble (g .y) shift; z = totalDouble (g .z) shift }
-
-abbrev pub doubleOf : Shifts → Axes → ℕ → ℕ → Float
-doubleOf s a group axis = totalDouble (axisAt a group axis) (shiftIn s group)
-
-unfoldable pub totalDoubles : Shifts → Axes → TotalDoubles
-totalDoubles s a =
-    record {
-      «gyro_x» = doubleOf s a 0 0;
-      «gyro_y» = doubleOf s a 0 1;
-      «gyro_z» = doubleOf s a 0 2;
-      «accelerometer_x» = doubleOf s a 1 0;
-      «accelerometer_y» = doubleOf s a 1 1;
-      «accelerometer_z» = doubleOf s a 1 2;
-      «inclinometer_x» = doubleOf s a 2 0;
-      «inclinometer_y» = doubleOf s a 2 1;
-      «inclinometer_z» = doubleOf s a 2 2;
-    }
-
--- the total and the double of an axis of a group
+-- the total of an axis of a group
 abbrev pub totalIn : GroupTotals → ℕ → Total
 totalIn g axis = oneOf (g .x) (g .y) (g .z) axis
 
 abbrev pub totalAt : Totals → ℕ → ℕ → Total
 totalAt t group axis = totalIn (oneOf (t .gyro) (t .accelerometer) (t .inclinometer) group) axis
-
-abbrev pub doubleAt : TotalDoubles → ℕ → ℕ → Float
-doubleAt t group axis =
-    oneOf (oneOf (t .«gyro_x») (t .«gyro_y») (t .«gyro_z») axis) (oneOf (t .«accelerometer_x») (t .«accelerometer_y») (t .«accelerometer_z») axis)
-    (oneOf (t .«inclinometer_x») (t .«inclinometer_y») (t .«inclinometer_z») axis)
-    group
 
 -- ---- demand 3 of one axis, over the datagrams that it sees
 

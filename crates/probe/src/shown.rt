@@ -1,4 +1,7 @@
 // The answers as text on standard output. Each word is written by itself, behind a space: numbers in decimal, bytes in hexadecimal.
+use doubles::GroupValues;
+use doubles::TotalDoubles;
+use doubles::Values;
 use libc::STDOUT_FILENO;
 use lines::Received;
 use motion::Axes;
@@ -6,11 +9,8 @@ use motion::Axis;
 use motion::Gap;
 use motion::GroupAxes;
 use motion::GroupTotals;
-use motion::GroupValues;
 use motion::Total;
-use motion::TotalDoubles;
 use motion::Totals;
-use motion::Values;
 use receiver::Answer;
 use receiver::Datagram;
 use session::Session;

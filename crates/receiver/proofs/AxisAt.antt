@@ -14,11 +14,12 @@ use Rattle.setup.specs.Sensor.{sensorOf}
 use Rattle.setup.specs.declared.Setup.{Setup}
 use Rattle.setup.specs.declared.Ruling.the-variants.{Accepted}
 use Rattle.wire.specs.Fields.{fieldsOf}
-use Rattle.motion.specs.Doubles.{shiftIn}
-use Rattle.motion.specs.Totals.{groupsKept, noAxis, Sighting, keptStep, keeps, axisAt, none, totalOf, totalAt, totalDouble, doubleAt, after}
+use Rattle.motion.specs.Totals.{groupsKept, noAxis, Sighting, keptStep, keeps, axisAt, none, totalOf, totalAt, after}
 use Rattle.motion.specs.declared.Axis.{Axis}
 use Rattle.motion.proofs.Bounds.{keptAfter, after-next, after-not-kept, after-within, after-bound}
-use Rattle.motion.proofs.NineAxes.{step-at, none-at, total-at, double-at}
+use Rattle.motion.proofs.NineAxes.{step-at, none-at, total-at}
+use Rattle.doubles.specs.Doubles.{shiftIn, totalDouble, doubleAt}
+use Rattle.doubles.proofs.Doubles.{double-at}
 use Rattle.scan.specs.Carry.{steps, carriedAfter}
 use Rattle.scan.proofs.CarryLaws.{told-at, told-beyond}
 use Rattle.history.specs.History.{noHistory, awaitsFirst, historyNext}

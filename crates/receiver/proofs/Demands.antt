@@ -17,14 +17,14 @@ use Rattle.setup.specs.declared.Setup.{Setup}
 use Rattle.setup.specs.declared.Ruling.the-variants.{Accepted}
 use Rattle.wire.specs.Fields.{fieldsOf}
 use Rattle.wire.proofs.FieldRanges.{fields-fit}
-use Rattle.motion.specs.Doubles.{negative, plusZero, unitOf, doublesIn, shiftIn, groupValues, valuesFor}
 use Rattle.motion.specs.Totals as totals
-use Rattle.motion.specs.Totals.{Sighting, keeps, none, totalOf, totalAt, totalDouble, doubleAt, fitReadings, fitBefore, readingOf}
+use Rattle.motion.specs.Totals.{Sighting, keeps, none, totalOf, totalAt, fitReadings, fitBefore, readingOf}
 use Rattle.motion.specs.declared.Total.{Total}
-use Rattle.motion.specs.declared.Values.{Values}
 use Rattle.motion.proofs.Bounds.{keptAfter}
-use Rattle.motion.proofs.AcceptedSetup.{accepted-unit, accepted-value, accepted-total}
 use Rattle.motion.proofs.TrueChange.{kept-at-each, carried-at, place-of}
+use Rattle.doubles.specs.Doubles.{negative, plusZero, unitNumberIn, doublesIn, shiftIn, groupValues, valuesFor, totalDouble, doubleAt}
+use Rattle.doubles.specs.declared.Values.{Values}
+use Rattle.doubles.proofs.AcceptedSetup.{accepted-unit, accepted-value, accepted-total}
 use Rattle.scan.specs.Scan.{scan}
 use Rattle.scan.specs.Calls as calls
 use Rattle.scan.specs.Calls.{Report, skip}
@@ -182,7 +182,7 @@ module _ (u : Setup) (ok : rulingOn u ≡ Accepted) where
       exact-at : Exact u es i (getD os i noDatagram) group axis
       exact-at =
           record {
-            unit = ap unitOf values-in ∙ accepted-unit u ok (fieldsOf (u .identifier) d .readings) group h;
+            unit = ap unitNumberIn values-in ∙ accepted-unit u ok (fieldsOf (u .identifier) d .readings) group h;
             value =
                 subst (λ (v : Values). HasValue (getD (doublesIn v) axis plusZero) (negative (sighting u group axis d .reading)) (natAbs (sighting u group axis d .reading)) (2 ^ shiftOf u group)) (sym values-in)
                 (accepted-value u ok (fieldsOf (u .identifier) d .readings) group h axis k reading-small);

@@ -14,15 +14,15 @@ use Rattle.setup.specs.declared.Sensor.{Sensor}
 use Rattle.wire.specs.Fields.{Contents, contentsOf, besidesReadings}
 use Rattle.wire.specs.declared.Fields.{Fields}
 use Rattle.motion.specs.Status.{flagged}
-use Rattle.motion.specs.Doubles.{plusZero, groupValues}
 use Rattle.motion.specs.Gaps.{datagrams, gapBetween}
-use Rattle.motion.specs.Totals.{noAxes, keptBy, totalsOf, totalDoubles}
+use Rattle.motion.specs.Totals.{noAxes, keptBy, totalsOf}
 use Rattle.motion.specs.declared.Axes.{Axes}
 use Rattle.motion.specs.declared.Gap.{Gap}
 use Rattle.motion.specs.declared.Gap.the-variants.{Missed}
-use Rattle.motion.specs.declared.Values.{Values}
-use Rattle.motion.specs.declared.Values.the-variants.{Instantaneous}
-use Rattle.motion.specs.declared.TotalDoubles.{TotalDoubles}
+use Rattle.doubles.specs.Doubles.{plusZero, groupValues, totalDoubles}
+use Rattle.doubles.specs.declared.Values.{Values}
+use Rattle.doubles.specs.declared.Values.the-variants.{Instantaneous}
+use Rattle.doubles.specs.declared.TotalDoubles.{TotalDoubles}
 use Rattle.scan.specs.Calls as calls
 use Rattle.scan.specs.Calls.{Fed, Report, Run}
 use Rattle.scan.specs.Carry as carry

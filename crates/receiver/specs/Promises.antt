@@ -16,8 +16,8 @@ use Rattle.setup.specs.declared.Ruling.the-variants.{Accepted}
 use Rattle.wire.specs.Fields.{fieldsOf, besidesReadings}
 use Rattle.motion.specs.Status.{flagged}
 use Rattle.motion.specs.Gaps.{gapAt}
-use Rattle.motion.specs.Doubles.{negative, plusZero, unitOf, doublesIn, valuesFor}
-use Rattle.motion.specs.Totals.{noAxis, Sighting, keeps, seen, totalAt, doubleAt, fitReadings, fitBefore, readingOf, Close, totalOf, after}
+use Rattle.motion.specs.Totals.{noAxis, Sighting, keeps, seen, totalAt, fitReadings, fitBefore, readingOf, Close, totalOf, after}
+use Rattle.doubles.specs.Doubles.{negative, plusZero, unitNumberIn, doublesIn, valuesFor, doubleAt}
 use Rattle.scan.specs.Scan.{scan}
 use Rattle.scan.specs.Calls.{Report}
 use Rattle.scan.specs.Stream.{stream, reports, NoTen, Among}
@@ -114,7 +114,7 @@ pub record Contained (u : Setup) (es : List (List ℕ)) (i : ℕ) (o : Datagram)
 -- the total of an axis at that place: by the rule for one axis over what it sees up to there, if it keeps one, else 0 and not begun;
 -- each double is its reading, or its total, over 2 ^ shift, without any rounding
 pub record Exact (u : Setup) (es : List (List ℕ)) (i : ℕ) (o : Datagram) (group axis : ℕ) : Type 0 where
-  pub unit : unitOf (valuesFor (o .values) group) ≡ getD (u .units) group 0
+  pub unit : unitNumberIn (valuesFor (o .values) group) ≡ getD (u .units) group 0
   pub value :
       HasValue (getD (doublesIn (valuesFor (o .values) group)) axis plusZero) (negative (sighting u group axis (getD es i []) .reading))
       (natAbs (sighting u group axis (getD es i []) .reading)) (2 ^ shiftOf u group)

@@ -1,12 +1,12 @@
--- `motion::reading_double` meets its contract. Assumes nothing.
+-- `doubles::reading_double` meets its contract. Assumes nothing.
 use native.Mathlib.Omega.{arith}
 use mir.Syntax.{w32}
 use mir.ValLaws.{toZ-ofZ}
 use Rattle.integers.proofs.Signed.{abs-of-sfits}
-use Rattle.motion.proofs.Doubles.{computed}
+use Rattle.doubles.proofs.Doubles.{computed}
 use borrow.Author.Needs.{needs}
-use Rattle.motion.proofs.reading_double.Statement.{statement}
-use Rattle.motion.proofs.reading_double.Tie as tie
+use Rattle.doubles.proofs.reading_double.Statement.{statement}
+use Rattle.doubles.proofs.reading_double.Tie as tie
 
 int-to-float-result : tie.Need-int-to-float-result
 int-to-float-result c = search needs

@@ -1,8 +1,8 @@
--- `motion::group_values` meets its contract. Assumes nothing.
-use Rattle.motion.specs.Doubles.{groupValues}
+-- `doubles::group_values` meets its contract. Assumes nothing.
+use Rattle.doubles.specs.Doubles.{groupValues}
 use borrow.Author.Needs.{needs}
-use Rattle.motion.proofs.group_values.Statement.{statement}
-use Rattle.motion.proofs.group_values.Tie as tie
+use Rattle.doubles.proofs.group_values.Statement.{statement}
+use Rattle.doubles.proofs.group_values.Tie as tie
 
 array-copy-out-values-of : tie.Need-array-copy-out-values-of
 array-copy-out-values-of c = search needs

@@ -1,10 +1,10 @@
--- `motion::steps_double` meets its contract. Assumes nothing.
+-- `doubles::steps_double` meets its contract. Assumes nothing.
 use mir.Syntax.{w64}
 use mir.ValLaws.{toZ-ofZ}
-use Rattle.motion.proofs.Doubles.{in-float, computed}
+use Rattle.doubles.proofs.Doubles.{in-float, computed}
 use borrow.Author.Needs.{needs}
-use Rattle.motion.proofs.steps_double.Statement.{statement}
-use Rattle.motion.proofs.steps_double.Tie as tie
+use Rattle.doubles.proofs.steps_double.Statement.{statement}
+use Rattle.doubles.proofs.steps_double.Tie as tie
 
 int-to-float-result : tie.Need-int-to-float-result
 int-to-float-result c = rw (toZ-ofZ w64 (c .before .args .steps) (c .before .fits .steps)) (in-float (c .before .args .steps) (c .before .pre .0))

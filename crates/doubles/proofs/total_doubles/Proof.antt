@@ -1,8 +1,8 @@
--- `motion::total_doubles` meets its contract. Assumes nothing.
-use Rattle.motion.specs.Totals.{groupDoubles, totalDoubles}
+-- `doubles::total_doubles` meets its contract. Assumes nothing.
+use Rattle.doubles.specs.Doubles.{groupDoubles, totalDoubles}
 use borrow.Author.Needs.{needs}
-use Rattle.motion.proofs.total_doubles.Statement.{statement}
-use Rattle.motion.proofs.total_doubles.Tie as tie
+use Rattle.doubles.proofs.total_doubles.Statement.{statement}
+use Rattle.doubles.proofs.total_doubles.Tie as tie
 
 group-doubles-requires : tie.Need-group-doubles-requires
 group-doubles-requires c κs = search needs

@@ -1,8 +1,8 @@
--- `motion::group_doubles` meets its contract. Assumes nothing.
-use Rattle.motion.specs.Totals.{groupDoubles}
+-- `doubles::group_doubles` meets its contract. Assumes nothing.
+use Rattle.doubles.specs.Doubles.{groupDoubles}
 use borrow.Author.Needs.{needs}
-use Rattle.motion.proofs.group_doubles.Statement.{statement}
-use Rattle.motion.proofs.group_doubles.Tie as tie
+use Rattle.doubles.proofs.group_doubles.Statement.{statement}
+use Rattle.doubles.proofs.group_doubles.Tie as tie
 
 total-double-requires : tie.Need-total-double-requires
 total-double-requires c κs = search needs

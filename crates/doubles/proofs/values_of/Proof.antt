@@ -1,15 +1,15 @@
--- `motion::values_of` meets its contract. Assumes nothing.
+-- `doubles::values_of` meets its contract. Assumes nothing.
 use Prim.Native.Nat.{_≤_}
 use lib.IntN.{ℤ, pos}
 use lib.Ieee.{Float}
 use lib.ListN.{getD}
 use mir.Syntax.{w32}
 use Rattle.integers.proofs.Signed.{passed}
-use Rattle.motion.specs.Doubles.{quotient, valuesOf}
-use Rattle.motion.proofs.Doubles.{shift-small}
+use Rattle.doubles.specs.Doubles.{quotient, valuesOf}
+use Rattle.doubles.proofs.Doubles.{shift-small}
 use borrow.Author.Needs.{needs}
-use Rattle.motion.proofs.values_of.Statement.{statement}
-use Rattle.motion.proofs.values_of.Tie as tie
+use Rattle.doubles.proofs.values_of.Statement.{statement}
+use Rattle.doubles.proofs.values_of.Tie as tie
 
 small : (c : tie.After-known-shift) → c .known-shift .result ≤ 31
 small c = rw (c .known-shift .ensures) (shift-small (c .before .args .shift))

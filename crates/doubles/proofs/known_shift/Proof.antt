@@ -1,8 +1,8 @@
--- `motion::known_shift` meets its contract. Assumes nothing.
+-- `doubles::known_shift` meets its contract. Assumes nothing.
 use borrow.Author.Tests.{le-leb, lt-leb}
-use Rattle.motion.specs.Doubles.{knownShift}
-use Rattle.motion.proofs.known_shift.Statement.{statement}
-use Rattle.motion.proofs.known_shift.Tie as tie
+use Rattle.doubles.specs.Doubles.{knownShift}
+use Rattle.doubles.proofs.known_shift.Statement.{statement}
+use Rattle.doubles.proofs.known_shift.Tie as tie
 
 returns : tie.Need-returns
 unfolding knownShift

@@ -23,10 +23,15 @@ use Rattle.integers.proofs.Ranges.{le-within}
 use Rattle.setup.specs.Setup.{unitNumber}
 use Rattle.setup.specs.declared.Unit.{Unit}
 use Rattle.setup.specs.declared.Unit.the-variants.{Instantaneous, Incremental, Average, Integrated}
+use Rattle.setup.specs.declared.Units.{Units}
+use Rattle.setup.specs.declared.Shifts.{Shifts}
 use Rattle.setup.proofs.Refusals.{each}
+use Rattle.motion.specs.Totals.{axisAt}
 use Rattle.motion.specs.declared.Axis.{Axis}
-use Rattle.motion.specs.Totals.{totalDouble}
-use Rattle.motion.specs.Doubles.{negative, quotient, plusZero, knownShift, unitOf, doublesIn, valuesIn, valuesOf}
+use Rattle.motion.specs.declared.Axes.{Axes}
+use Rattle.motion.proofs.NineAxes.{each-axis}
+use Rattle.doubles.specs.Doubles.{negative, quotient, plusZero, knownShift, unitNumberIn, doublesIn, valuesIn, valuesOf, shiftIn, valuesAt}
+use Rattle.doubles.specs.Doubles.{groupValues, valuesFor, totalDouble, totalDoubles, doubleAt}
 
 -- ---- what the code computes: a quotient of two floats that have whole values is rounded once
 
@@ -188,7 +193,7 @@ total-plus a shift e = rw (e, zero-plus (knownShift shift))
 
 -- ---- the values of a group are told by their unit and their doubles
 
-unit-in : (unit : Unit) (x y z : Float) → unitOf (valuesIn unit x y z) ≡ unitNumber unit
+unit-in : (unit : Unit) (x y z : Float) → unitNumberIn (valuesIn unit x y z) ≡ unitNumber unit
 unfolding valuesIn
 unit-in Instantaneous x y z = refl
 unit-in Incremental x y z = refl
@@ -204,7 +209,7 @@ doubles-in Integrated x y z = refl
 
 module _ (unit : Unit) (shift : ℕ) (readings : List ℤ) where
   -- they come back under 01's number of the unit
-  pub values-unit : unitOf (valuesOf unit shift readings) ≡ unitNumber unit
+  pub values-unit : unitNumberIn (valuesOf unit shift readings) ≡ unitNumber unit
   unfolding valuesOf
   values-unit = unit-in unit _ _ _
 
@@ -216,3 +221,19 @@ module _ (unit : Unit) (shift : ℕ) (readings : List ℤ) where
       let double : ℕ → Float = λ n. quotient (getD readings n (pos 0)) (knownShift shift) in
       ap (λ (l : List Float). getD l axis plusZero) (doubles-in unit (double 0) (double 1) (double 2))
       ∙ each (λ (n : ℕ). getD (double 0 ∷ double 1 ∷ double 2 ∷ []) n plusZero ≡ double n) refl refl refl axis h
+
+-- the values of a group
+pub values-at : (units : Units) (shifts : Shifts) (readings : List (List ℤ)) (group : ℕ) → group < 3
+    → valuesFor (groupValues units shifts readings) group ≡ valuesAt units shifts readings group
+unfolding groupValues
+values-at units shifts readings =
+    each (λ n. valuesFor (groupValues units shifts readings) n ≡ valuesAt units shifts readings n) refl refl refl
+
+-- ---- the double of an axis, as it comes back
+
+pub double-at : (s : Shifts) (a : Axes) (group axis : ℕ) → group < 3 → axis < 3
+    → doubleAt (totalDoubles s a) group axis ≡ totalDouble (axisAt a group axis) (shiftIn s group)
+unfolding totalDoubles
+double-at s a =
+    each-axis (λ n m. doubleAt (totalDoubles s a) n m ≡ totalDouble (axisAt a n m) (shiftIn s n)) (refl, refl, refl) (refl, refl, refl)
+    (refl, refl, refl)

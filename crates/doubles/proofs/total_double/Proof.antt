@@ -1,4 +1,4 @@
--- `motion::total_double` meets its contract. Assumes nothing.
+-- `doubles::total_double` meets its contract. Assumes nothing.
 use Prim.Native.Nat.{_^_}
 use mathlib.Core.Path.{_≡_, sym, _∙_}
 use native.Mathlib.Omega.{arith}
@@ -9,11 +9,11 @@ use mir.ValLaws.{toZ-ofZ}
 use Rattle.integers.specs.Ranges.{within}
 use Rattle.integers.proofs.Ranges.{within-true}
 use Rattle.integers.proofs.Signed.{passed}
-use Rattle.motion.specs.Totals.{totalDouble}
-use Rattle.motion.proofs.Doubles.{shift-small}
+use Rattle.doubles.specs.Doubles.{totalDouble}
+use Rattle.doubles.proofs.Doubles.{shift-small}
 use borrow.Author.Needs.{needs}
-use Rattle.motion.proofs.total_double.Statement.{statement}
-use Rattle.motion.proofs.total_double.Tie as tie
+use Rattle.doubles.proofs.total_double.Statement.{statement}
+use Rattle.doubles.proofs.total_double.Tie as tie
 
 fits : (c : tie.After-struct-told) → SFits w64 (c .before .args .axis .total)
 fits c = record { sfits = omega arith }

@@ -1,8 +1,8 @@
--- `motion::power` meets its contract. Assumes nothing.
-use Rattle.motion.proofs.Doubles.{shifted}
+-- `doubles::power` meets its contract. Assumes nothing.
+use Rattle.doubles.proofs.Doubles.{shifted}
 use borrow.Author.Needs.{needs}
-use Rattle.motion.proofs.power.Statement.{statement}
-use Rattle.motion.proofs.power.Tie as tie
+use Rattle.doubles.proofs.power.Statement.{statement}
+use Rattle.doubles.proofs.power.Tie as tie
 
 shl-result : tie.Need-shl-result
 shl-result c = search needs

@@ -1,8 +1,8 @@
--- `motion::values_in` meets its contract. Assumes nothing.
-use Rattle.motion.specs.Doubles.{valuesIn}
+-- `doubles::values_in` meets its contract. Assumes nothing.
+use Rattle.doubles.specs.Doubles.{valuesIn}
 use borrow.Author.Needs.{needs}
-use Rattle.motion.proofs.values_in.Statement.{statement}
-use Rattle.motion.proofs.values_in.Tie as tie
+use Rattle.doubles.proofs.values_in.Statement.{statement}
+use Rattle.doubles.proofs.values_in.Tie as tie
 
 enum-told : tie.Need-enum-told
 enum-told c = search needs

@@ -1,0 +1,2 @@
+-- The rules of readings and totals as doubles.
+pub mod Doubles
