@@ -16,7 +16,7 @@ use Rattle.scan.specs.Scan.{Scanned, scan}
 use Rattle.search.specs.Search.{verdictOf}
 use Rattle.session.specs.Session.{pieceRules, pieceRuling}
 use Rattle.session.specs.declared.Session.{Session}
-use Rattle.receiver.specs.Feed.{stateOf, sessionOf}
+use Rattle.feeding.specs.Feed.{stateOf, sessionOf}
 use Rattle.lines.specs.declared.Received.the-variants.{Lines}
 use Rattle.lines.specs.declared.Batch.{Batch}
 use Rattle.lines.specs.Lines.{foundIn, linesIn, behind, enough, refusing, bufferBy, batchWith, batchOf, batchBuffer}

@@ -23,14 +23,14 @@ use Rattle.history.specs.declared.History.{History}
 use Rattle.session.specs.declared.Session.{Session}
 use Rattle.session.proofs.Soundness.{Facts, sound-facts}
 use Rattle.session.proofs.PieceRulings.{Admitted, admitted}
-use Rattle.receiver.specs.Feed.{historyAfter, datagramWith, consumer, stateOf, feedOf}
-use Rattle.receiver.specs.CallParts.{replyAfter, replyAtOnce}
-use Rattle.receiver.specs.declared.Answer.the-variants.{Datagram as HandedOut, Waiting}
-use Rattle.receiver.specs.declared.Reply.{Reply}
-use Rattle.receiver.proofs.BySetup.{told-datagram}
-use Rattle.receiver.proofs.Refinement.{count-held}
-use Rattle.receiver.proofs.CallParts.{count-less}
-use Rattle.receiver.proofs.OneLength.{fed-at-once}
+use Rattle.feeding.specs.Feed.{historyAfter, datagramWith, consumer, stateOf, feedOf}
+use Rattle.feeding.specs.CallParts.{replyAfter, replyAtOnce}
+use Rattle.feeding.specs.declared.Answer.the-variants.{Datagram as HandedOut, Waiting}
+use Rattle.feeding.specs.declared.Reply.{Reply}
+use Rattle.feeding.proofs.BySetup.{told-datagram}
+use Rattle.feeding.proofs.Refinement.{count-held}
+use Rattle.feeding.proofs.CallParts.{count-less}
+use Rattle.feeding.proofs.OneLength.{fed-at-once}
 use Rattle.lines.specs.declared.Received.the-variants.{Lines}
 use Rattle.lines.specs.declared.Batch.{Batch}
 use Rattle.lines.specs.Lines.{lineOf, foundIn, enough}

@@ -25,8 +25,8 @@ use Rattle.search.proofs.Places.{IsComplete, IsUndecided, complete-length}
 use Rattle.session.specs.declared.Session.{Session}
 use Rattle.session.proofs.Soundness.{sound-facts}
 use Rattle.session.proofs.PieceRulings.{admitted}
-use Rattle.receiver.specs.Feed.{consumer, sessionOf}
-use Rattle.receiver.proofs.BySetup.{after-datagram}
+use Rattle.feeding.specs.Feed.{consumer, sessionOf}
+use Rattle.feeding.proofs.BySetup.{after-datagram}
 use Rattle.lines.specs.declared.Received.the-variants.{Lines}
 use Rattle.lines.specs.declared.Progress.{Progress}
 use Rattle.lines.specs.PieceParts.{startOf, nextLine, textOf, nextOf, stopped, behindBy, batchBy, Ready, scanAt, Finished, Answered, Permitted}

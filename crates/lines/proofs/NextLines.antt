@@ -35,8 +35,8 @@ use Rattle.history.specs.History.{awaitsFirst, historyNext}
 use Rattle.session.specs.Session.{axesRight}
 use Rattle.history.specs.declared.History.{History}
 use Rattle.session.proofs.AxisLaws.{axes-at, axes-step}
-use Rattle.receiver.specs.Feed.{historyAfter, datagramWith, consumer}
-use Rattle.receiver.proofs.BySetup.{after-datagram, told-datagram}
+use Rattle.feeding.specs.Feed.{historyAfter, datagramWith, consumer}
+use Rattle.feeding.proofs.BySetup.{after-datagram, told-datagram}
 use Rattle.lines.specs.Lines.{lineOf, linesAfter}
 use Rattle.lines.specs.PieceParts.{nextLine, textOf}
 

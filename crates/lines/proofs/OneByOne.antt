@@ -18,12 +18,12 @@ use Rattle.search.proofs.Datagrams.{lawful, prompt}
 use Rattle.session.specs.Session.{heldBytes, isSound}
 use Rattle.session.specs.declared.Session.{Session}
 use Rattle.session.proofs.Soundness.{sound-facts}
-use Rattle.receiver.specs.declared.Datagram.{Datagram}
-use Rattle.receiver.specs.Feed.{consumer, SessionState, stateOf, sessionOf, Calls}
-use Rattle.receiver.proofs.Refinement.{SafeOf, state-safe, session-sound, session-state}
-use Rattle.receiver.proofs.HistoryInvariant.{history-invariant}
-use Rattle.receiver.proofs.OneLength.{undecided-held}
-use Rattle.receiver.proofs.Agreement.{StateRun, run-of-states, run-of-sessions}
+use Rattle.feeding.specs.declared.Datagram.{Datagram}
+use Rattle.feeding.specs.Feed.{consumer, SessionState, stateOf, sessionOf, Calls}
+use Rattle.feeding.proofs.Refinement.{SafeOf, state-safe, session-sound, session-state}
+use Rattle.feeding.proofs.HistoryInvariant.{history-invariant}
+use Rattle.feeding.proofs.OneLength.{undecided-held}
+use Rattle.feeding.proofs.Agreement.{StateRun, run-of-states, run-of-sessions}
 use Rattle.lines.specs.Lines.{foundIn, answersIn, behind}
 
 module _ (s : Session) (p : List ℕ) (e : isSound s ≡ true) (few : length p ≤ limitsOf (s .setup) .piece)

@@ -16,8 +16,8 @@ use Rattle.scan.specs.Carry.{told, carriedAfter}
 use Rattle.search.specs.Search.{verdictOf}
 use Rattle.session.specs.Session.{heldBytes, pieceRules}
 use Rattle.session.specs.declared.Session.{Session}
-use Rattle.receiver.specs.Feed.{consumer, SessionState, stateOf, sessionOf}
-use Rattle.receiver.specs.declared.Datagram.{Datagram}
+use Rattle.feeding.specs.Feed.{consumer, SessionState, stateOf, sessionOf}
+use Rattle.feeding.specs.declared.Datagram.{Datagram}
 use Rattle.lines.specs.declared.Received.{Received}
 use Rattle.lines.specs.declared.Received.the-variants.{Lines, Refused}
 use Rattle.lines.specs.declared.Batch.{Batch}

@@ -19,7 +19,7 @@ use Rattle.history.specs.History.{greatestCount}
 use Rattle.session.specs.Session.{axesRight, pieceRuling}
 use Rattle.history.specs.declared.History.{History}
 use Rattle.session.specs.declared.Session.{Session}
-use Rattle.receiver.specs.Feed.{consumer, SessionState, stateOf, sessionOf}
+use Rattle.feeding.specs.Feed.{consumer, SessionState, stateOf, sessionOf}
 use Rattle.lines.specs.Lines.{lineOf, linesAfter, enough}
 use Rattle.lines.specs.declared.Received.the-variants.{Lines}
 use Rattle.lines.specs.declared.Batch.{Batch}

@@ -15,11 +15,11 @@ ghost use Rattle.search.specs.Search.{isDatagram, limitsOf, verdictOf, placeOf}
 ghost use Rattle.history.specs.History.{greatestCount};
 ghost use Rattle.lines.specs.Lines.{lineBy, foundIn, refusing, batchOf, batchBuffer};
 ghost use Rattle.lines.specs.PieceParts.{lookedUp, nextLine, startOf, nextOf, stopped, scanAt, Ready, Finished, Answered, Permitted};
+use feeding::Answer;
+use feeding::Datagram;
 use history::History;
 use motion::Gap;
 use motion::Totals;
-use receiver::Answer;
-use receiver::Datagram;
 use search::Place;
 use session::Admission;
 use session::Session;

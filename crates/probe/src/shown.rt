@@ -2,6 +2,8 @@
 use doubles::GroupValues;
 use doubles::TotalDoubles;
 use doubles::Values;
+use feeding::Answer;
+use feeding::Datagram;
 use libc::STDOUT_FILENO;
 use lines::Received;
 use motion::Axes;
@@ -11,8 +13,6 @@ use motion::GroupAxes;
 use motion::GroupTotals;
 use motion::Total;
 use motion::Totals;
-use receiver::Answer;
-use receiver::Datagram;
 use session::Session;
 use setup::Ruling;
 use setup::Setup;

@@ -1,13 +1,2 @@
--- Laws of feeding, and the proofs of the demands.
-pub mod Joining
-pub mod BySetup
-pub mod Refinement
-pub mod CallParts
-pub mod HistoryInvariant
-pub mod Agreement
-pub mod EachCall
-pub mod OneLength
-pub mod ContainedAt
-pub mod AxisAt
-pub mod Demands
-pub mod WorkedExample
+-- Laws of the window of held bytes and the first bytes of a piece.
+mod Joining

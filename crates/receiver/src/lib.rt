@@ -12,11 +12,14 @@ ghost use Rattle.motion.specs.Totals.{noAxes, totalsOf};
 ghost use Rattle.scan.specs.Scan.{first, later, ends, finds};
 ghost use Rattle.search.specs.Search.{rulesOf, verdictOf};
 ghost use Rattle.session.specs.Session.{sessionWith, heldBytes, pieceRuling};
-ghost use Rattle.receiver.specs.Feed.{datagramWith, noFields, noValues, noDoubles, noDatagram, refusal, feedOf};
-ghost use Rattle.receiver.specs.CallParts.{contentsWith, replyAfter, replyAtOnce, Room};
+ghost use Rattle.feeding.specs.Feed.{datagramWith, noFields, noValues, noDoubles, noDatagram, refusal, feedOf};
+ghost use Rattle.feeding.specs.CallParts.{contentsWith, replyAfter, replyAtOnce, Room};
 use doubles::GroupValues;
 use doubles::TotalDoubles;
 use doubles::Values;
+use feeding::Answer;
+use feeding::Datagram;
+use feeding::Reply;
 use history::History;
 use motion::Axes;
 use motion::Datagrams;
@@ -29,37 +32,6 @@ use session::Admission;
 use session::Session;
 use setup::Sensor;
 use wire::Fields;
-
-// A datagram as it comes back.
-pub struct Datagram {
-    // readings X, Y, Z of each group
-    pub gyro: [i32; 3],
-    pub accelerometer: [i32; 3],
-    pub inclinometer: [i32; 3],
-    // statuses, temperatures, AUX, counter and latency
-    pub fields: Fields,
-    // how many channels the status byte of each group flags
-    pub flagged: [u32; 3],
-    pub values: GroupValues,
-    pub gap: Gap,
-    pub totals: Totals,
-    pub doubles: TotalDoubles,
-}
-
-// What happened: a datagram was handed out, the piece ended, the call was refused by a number.
-pub enum Answer {
-    Datagram,
-    Waiting,
-    Refused(u8),
-}
-
-// What a call tells: which happened, how many bytes it took, the new session, and the datagram, zeros where none is handed out.
-pub struct Reply {
-    pub answer: Answer,
-    pub taken: usize,
-    pub session: Session,
-    pub datagram: Datagram,
-}
 
 // A datagram as it comes back, of its readings and its other fields; `gap`: what lies before it, `axes`: those after it.
 fn datagram_of(

@@ -5,7 +5,7 @@ use Prim.Native.Nat.{ℕ}
 use borrow.Author.Needs.{needs}
 use Rattle.scan.specs.Scan.{Verdict, first}
 use Rattle.search.specs.Search.{placeOf}
-use Rattle.receiver.proofs.BySetup.{sensor-verdict}
+use Rattle.feeding.proofs.BySetup.{sensor-verdict}
 use Rattle.lines.specs.declared.LookedUp.{LookedUp}
 use Rattle.lines.proofs.find.Statement.{statement}
 use Rattle.lines.proofs.find.Tie as tie

@@ -11,9 +11,9 @@ use Rattle.text_line.specs.ShownLine.{outside, longestLine}
 use Rattle.search.specs.Search.{limitsOf}
 use Rattle.session.proofs.Soundness.{sound-facts}
 use Rattle.session.proofs.PieceRulings.{Admitted, admitted}
-use Rattle.receiver.specs.declared.Reply.{Reply}
-use Rattle.receiver.specs.Feed.{stateOf}
-use Rattle.receiver.proofs.EachCall.{not-refused}
+use Rattle.feeding.specs.declared.Reply.{Reply}
+use Rattle.feeding.specs.Feed.{stateOf}
+use Rattle.feeding.proofs.EachCall.{not-refused}
 use Rattle.lines.specs.declared.Received.the-variants.{Lines}
 use Rattle.lines.specs.declared.LookedUp.{LookedUp}
 use Rattle.lines.specs.Lines.{lineBy, lineOf, foundIn, enough}

@@ -21,7 +21,7 @@ use Rattle.search.proofs.Datagrams.{datagram-length}
 use Rattle.history.specs.History.{awaitsFirst, gapNext, historyNext, advanced}
 use Rattle.history.specs.declared.History.{History}
 use Rattle.history.proofs.HistoryLaws.{advanced-next}
-use Rattle.receiver.proofs.BySetup.{after-datagram}
+use Rattle.feeding.proofs.BySetup.{after-datagram}
 use Rattle.lines.specs.declared.LookedUp.{LookedUp}
 use Rattle.lines.specs.PieceParts.{nextLine, nextOf}
 use Rattle.lines.proofs.NextLines.{nextHistory, gapIn, next-line, line-inside, line-short}

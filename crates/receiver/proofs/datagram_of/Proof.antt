@@ -1,8 +1,8 @@
 -- `receiver::datagram_of` meets its contract. Assumes nothing.
 use mathlib.Core.Path.{_≡_}
 use lib.ListN.{length}
-use Rattle.receiver.specs.Feed.{datagramWith}
-use Rattle.receiver.proofs.CallParts.{flagged-three}
+use Rattle.feeding.specs.Feed.{datagramWith}
+use Rattle.feeding.proofs.CallParts.{flagged-three}
 use borrow.Author.Needs.{needs}
 use Rattle.receiver.proofs.datagram_of.Statement.{statement}
 use Rattle.receiver.proofs.datagram_of.Tie as tie

@@ -2,7 +2,7 @@
 use mathlib.Core.Path.{sym, _∙_}
 use lib.ListN.{length}
 use Rattle.session.proofs.PieceRulings.{admits, admission-sensor, admission-number}
-use Rattle.receiver.proofs.CallParts.{fed-refused}
+use Rattle.feeding.proofs.CallParts.{fed-refused}
 use borrow.Author.Needs.{needs}
 use Rattle.receiver.proofs.feed.Statement.{statement}
 use Rattle.receiver.proofs.feed.Tie as tie

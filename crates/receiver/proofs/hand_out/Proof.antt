@@ -1,9 +1,9 @@
 -- `receiver::hand_out` meets its contract. Assumes nothing.
 use native.Mathlib.Omega.{arith}
 use Rattle.history.proofs.HistoryLaws.{advanced-next}
-use Rattle.receiver.specs.Feed.{historyAfter, tell}
-use Rattle.receiver.specs.CallParts.{replyAfter}
-use Rattle.receiver.proofs.CallParts.{contents-read}
+use Rattle.feeding.specs.Feed.{historyAfter, tell}
+use Rattle.feeding.specs.CallParts.{replyAfter}
+use Rattle.feeding.proofs.CallParts.{contents-read}
 use borrow.Author.Needs.{needs}
 use Rattle.receiver.proofs.hand_out.Statement.{statement}
 use Rattle.receiver.proofs.hand_out.Tie as tie

@@ -1,5 +1,5 @@
 -- `receiver::hold` meets its contract. Assumes nothing.
-use Rattle.receiver.specs.CallParts.{replyAfter}
+use Rattle.feeding.specs.CallParts.{replyAfter}
 use borrow.Author.Needs.{needs}
 use Rattle.receiver.proofs.hold.Statement.{statement}
 use Rattle.receiver.proofs.hold.Tie as tie

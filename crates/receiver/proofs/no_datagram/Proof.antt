@@ -1,5 +1,5 @@
 -- `receiver::no_datagram` meets its contract. Assumes nothing.
-use Rattle.receiver.specs.Feed.{noDatagram}
+use Rattle.feeding.specs.Feed.{noDatagram}
 use borrow.Author.Needs.{needs}
 use Rattle.receiver.proofs.no_datagram.Statement.{statement}
 use Rattle.receiver.proofs.no_datagram.Tie as tie

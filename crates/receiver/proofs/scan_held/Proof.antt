@@ -11,10 +11,10 @@ use Rattle.scan.specs.Scan.{Verdict, first, later}
 use Rattle.search.specs.Search.{verdictOf, verdictIn, placeOf}
 use Rattle.search.proofs.Places.{IsComplete, IsUndecided, complete-length, found-complete, found-undecided}
 use Rattle.session.specs.Session.{heldBytes}
-use Rattle.receiver.specs.CallParts.{replyAtOnce}
+use Rattle.feeding.specs.CallParts.{replyAtOnce}
 use Rattle.receiver.proofs.Joining.{complete-joined, complete-taken, undecided-joined}
-use Rattle.receiver.proofs.BySetup.{sensor-verdict}
-use Rattle.receiver.proofs.CallParts.{reply-found, reply-held, room-less}
+use Rattle.feeding.proofs.BySetup.{sensor-verdict}
+use Rattle.feeding.proofs.CallParts.{reply-found, reply-held, room-less}
 use borrow.Author.Needs.{needs}
 use Rattle.receiver.proofs.scan_held.Statement.{statement}
 use Rattle.receiver.proofs.scan_held.Tie as tie

@@ -9,8 +9,8 @@ use Rattle.setup.proofs.Refusals.{accepted-length}
 use Rattle.scan.specs.Scan.{Verdict, first, later}
 use Rattle.search.specs.Search.{verdictOf, verdictIn, placeOf}
 use Rattle.search.proofs.Places.{IsComplete, IsUndecided, found-complete, found-undecided}
-use Rattle.receiver.proofs.BySetup.{sensor-verdict}
-use Rattle.receiver.proofs.CallParts.{reply-found, reply-held, room-less}
+use Rattle.feeding.proofs.BySetup.{sensor-verdict}
+use Rattle.feeding.proofs.CallParts.{reply-found, reply-held, room-less}
 use borrow.Author.Needs.{needs}
 use Rattle.receiver.proofs.scan_on.Statement.{statement}
 use Rattle.receiver.proofs.scan_on.Tie as tie

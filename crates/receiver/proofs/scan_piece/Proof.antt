@@ -11,9 +11,9 @@ use Rattle.scan.proofs.ScanLaws.{later-zero}
 use Rattle.search.specs.Search.{verdictOf, sizeIn}
 use Rattle.session.proofs.Soundness.{Facts, sound-facts}
 use Rattle.session.proofs.PieceRulings.{Admitted, admitted}
-use Rattle.receiver.specs.CallParts.{replyAtOnce}
-use Rattle.receiver.proofs.CallParts.{count-less, room-of}
-use Rattle.receiver.proofs.OneLength.{fed-at-once}
+use Rattle.feeding.specs.CallParts.{replyAtOnce}
+use Rattle.feeding.proofs.CallParts.{count-less, room-of}
+use Rattle.feeding.proofs.OneLength.{fed-at-once}
 use borrow.Author.Needs.{needs}
 use Rattle.receiver.proofs.scan_piece.Statement.{statement}
 use Rattle.receiver.proofs.scan_piece.Tie as tie

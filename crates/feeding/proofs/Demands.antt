@@ -43,21 +43,21 @@ use Rattle.history.specs.declared.History.{History}
 use Rattle.session.specs.Session.{freshOf, opening, isSound, heldBytes}
 use Rattle.session.specs.declared.Session.{Session}
 use Rattle.session.specs.declared.Opened.{Opened}
-use Rattle.receiver.specs.declared.Datagram.{Datagram}
-use Rattle.receiver.specs.Feed.{consumer, SessionState, sessionOf, datagramWith, noDatagram, Calls}
-use Rattle.receiver.specs.OneLength.{OneLength}
-use Rattle.receiver.specs.Promises.{streamOf, FedInTurn, answersFor, sighting, sightings, shiftOf, TotalExact, EveryCall, Contained, Exact, Demand2, Stands, Carry, Demand3}
+use Rattle.feeding.specs.declared.Datagram.{Datagram}
+use Rattle.feeding.specs.Feed.{consumer, SessionState, sessionOf, datagramWith, noDatagram, Calls}
+use Rattle.feeding.specs.OneLength.{OneLength}
+use Rattle.feeding.specs.Promises.{streamOf, FedInTurn, answersFor, sighting, sightings, shiftOf, TotalExact, EveryCall, Contained, Exact, Demand2, Stands, Carry, Demand3}
 use Rattle.session.proofs.Opening.{fresh-sound, opened, refused-opening, zeros-unsound}
 use Rattle.setup.specs.Sensor.{sensorOf}
-use Rattle.receiver.proofs.BySetup.{told-datagram}
-use Rattle.receiver.proofs.Refinement.{SafeOf}
-use Rattle.receiver.proofs.HistoryInvariant.{history-invariant}
-use Rattle.receiver.proofs.Agreement.{Like, StateRun, run-of-states, run-of-sessions}
-use Rattle.receiver.proofs.EachCall.{not-refused, call-kept}
-use Rattle.receiver.proofs.OneLength.{undecided-held, handed-last, empty-call}
-use Rattle.receiver.proofs.CallParts.{fed-unsound, fed-over, fed-past}
-use Rattle.receiver.proofs.ContainedAt.{carried-datagrams, contained-at}
-use Rattle.receiver.proofs.AxisAt.{after-ruled, axisThen, total-then, double-then, then-bound, sighting-at, sightings-length, independent}
+use Rattle.feeding.proofs.BySetup.{told-datagram}
+use Rattle.feeding.proofs.Refinement.{SafeOf}
+use Rattle.feeding.proofs.HistoryInvariant.{history-invariant}
+use Rattle.feeding.proofs.Agreement.{Like, StateRun, run-of-states, run-of-sessions}
+use Rattle.feeding.proofs.EachCall.{not-refused, call-kept}
+use Rattle.feeding.proofs.OneLength.{undecided-held, handed-last, empty-call}
+use Rattle.feeding.proofs.CallParts.{fed-unsound, fed-over, fed-past}
+use Rattle.feeding.proofs.ContainedAt.{carried-datagrams, contained-at}
+use Rattle.feeding.proofs.AxisAt.{after-ruled, axisThen, total-then, double-then, then-bound, sighting-at, sightings-length, independent}
 
 module _ (u : Setup) (ok : rulingOn u ≡ Accepted) where
   -- the session that opening gives is that of the fresh state

@@ -33,10 +33,10 @@ use Rattle.search.specs.Search.{isDatagram, limitsOf, rulesOf, verdictOf}
 use Rattle.search.proofs.Datagrams.{lawful, prompt}
 use Rattle.history.specs.History.{historyNext}
 use Rattle.session.specs.declared.Session.{Session}
-use Rattle.receiver.specs.declared.Datagram.{Datagram}
-use Rattle.receiver.specs.Feed.{datagramWith, historyAfter, tell, noDatagram}
-use Rattle.receiver.specs.Promises.{streamOf, FedInTurn, answersFor, sighting, sightings, Stands, Carry}
-use Rattle.receiver.proofs.Demands.{demand3}
+use Rattle.feeding.specs.declared.Datagram.{Datagram}
+use Rattle.feeding.specs.Feed.{datagramWith, historyAfter, tell, noDatagram}
+use Rattle.feeding.specs.Promises.{streamOf, FedInTurn, answersFor, sighting, sightings, Stands, Carry}
+use Rattle.feeding.proofs.Demands.{demand3}
 
 abbrev example : Setup
 example = record { rate = 1000; identifier = 0x90; termination = 0; units = 3 ∷ 0 ∷ 0 ∷ []; shifts = 21 ∷ 0 ∷ 0 ∷ [] }

@@ -20,7 +20,7 @@ use Rattle.search.specs.Search.{rulesOf}
 use Rattle.session.specs.Session.{heldBytes, allZero, axesRight, isSound}
 use Rattle.history.specs.declared.History.{History}
 use Rattle.session.specs.declared.Session.{Session}
-use Rattle.receiver.specs.Feed.{historyRight, consumer, SessionState, stateOf, sessionOf}
+use Rattle.feeding.specs.Feed.{historyRight, consumer, SessionState, stateOf, sessionOf}
 use Rattle.session.proofs.Soundness.{Facts, sound-facts, facts-sound}
 
 -- what is asked of a session of a setup

@@ -17,11 +17,11 @@ use Rattle.wire.proofs.FieldBytes.{sensor-fields}
 use Rattle.motion.specs.Gaps.{gapAt}
 use Rattle.scan.specs.Carry.{steps, tells, carriedAfter}
 use Rattle.scan.proofs.CarryLaws.{told-at}
-use Rattle.receiver.specs.Feed.{datagramWith, historyAfter, consumer, noDatagram}
-use Rattle.receiver.proofs.BySetup.{told-datagram}
+use Rattle.feeding.specs.Feed.{datagramWith, historyAfter, consumer, noDatagram}
+use Rattle.feeding.proofs.BySetup.{told-datagram}
 use Rattle.history.specs.History.{noHistory, awaitsFirst, historyNext}
 use Rattle.history.specs.declared.History.{History}
-use Rattle.receiver.specs.Promises.{answersFor, Contained}
+use Rattle.feeding.specs.Promises.{answersFor, Contained}
 
 pred-suc : (n : ℕ) → suc n - 1 ≡ n
 pred-suc n = omega arith

@@ -24,10 +24,10 @@ use Rattle.scan.specs.Carry.{steps, carriedAfter}
 use Rattle.scan.proofs.CarryLaws.{told-at, told-beyond}
 use Rattle.history.specs.History.{noHistory, awaitsFirst, historyNext}
 use Rattle.history.specs.declared.History.{History}
-use Rattle.receiver.specs.declared.Datagram.{Datagram}
-use Rattle.receiver.specs.Feed.{datagramWith, historyAfter, tell, consumer, noDatagram}
-use Rattle.receiver.specs.Promises.{answersFor, sighting, sightings}
-use Rattle.receiver.proofs.BySetup.{kept-at, after-datagram}
+use Rattle.feeding.specs.declared.Datagram.{Datagram}
+use Rattle.feeding.specs.Feed.{datagramWith, historyAfter, tell, consumer, noDatagram}
+use Rattle.feeding.specs.Promises.{answersFor, sighting, sightings}
+use Rattle.feeding.proofs.BySetup.{kept-at, after-datagram}
 
 -- by 01's rule for one axis, up to 2 ^ 30 datagrams
 pub after-ruled :

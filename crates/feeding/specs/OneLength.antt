@@ -13,9 +13,9 @@ use Rattle.scan.specs.Calls.{Report, takenWhole}
 use Rattle.search.specs.Search.{verdictOf}
 use Rattle.session.specs.Session.{heldBytes, isSound, opening}
 use Rattle.session.specs.declared.Session.{Session}
-use Rattle.receiver.specs.declared.Datagram.{Datagram}
-use Rattle.receiver.specs.declared.Answer.the-variants.{Datagram as HandedOut, Waiting}
-use Rattle.receiver.specs.Feed.{noDatagram, feedOf, Calls}
+use Rattle.feeding.specs.declared.Datagram.{Datagram}
+use Rattle.feeding.specs.declared.Answer.the-variants.{Datagram as HandedOut, Waiting}
+use Rattle.feeding.specs.Feed.{noDatagram, feedOf, Calls}
 
 pub record OneLength : Type 0 where
   -- a piece of 0 bytes is taken and hands out nothing (the array of held bytes has 64, as in every session value)

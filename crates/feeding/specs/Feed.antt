@@ -32,10 +32,10 @@ use Rattle.history.specs.History.{noHistory, awaitsFirst, historyNext}
 use Rattle.session.specs.Session.{sessionWith, heldBytes, axesRight, pieceRuling}
 use Rattle.history.specs.declared.History.{History}
 use Rattle.session.specs.declared.Session.{Session}
-use Rattle.receiver.specs.declared.Datagram.{Datagram}
-use Rattle.receiver.specs.declared.Answer.{Answer}
-use Rattle.receiver.specs.declared.Answer.the-variants.{Datagram as HandedOut, Waiting, Refused}
-use Rattle.receiver.specs.declared.Reply.{Reply}
+use Rattle.feeding.specs.declared.Datagram.{Datagram}
+use Rattle.feeding.specs.declared.Answer.{Answer}
+use Rattle.feeding.specs.declared.Answer.the-variants.{Datagram as HandedOut, Waiting, Refused}
+use Rattle.feeding.specs.declared.Reply.{Reply}
 
 -- ---- what a datagram does to a session, and what comes back with it
 

@@ -18,15 +18,15 @@ use Rattle.scan.proofs.CarryLaws.{feed-fed, reply-refused}
 use Rattle.search.specs.Search.{limitsOf, rulesOf, verdictOf}
 use Rattle.session.specs.Session.{isSound}
 use Rattle.session.specs.declared.Session.{Session}
-use Rattle.receiver.specs.declared.Datagram.{Datagram}
-use Rattle.receiver.specs.declared.Answer.the-variants.{Refused}
-use Rattle.receiver.specs.declared.Reply.{Reply}
-use Rattle.receiver.specs.Feed.{consumer, SessionState, stateOf, replyBy, feedOf}
-use Rattle.receiver.specs.Promises.{CallKept}
+use Rattle.feeding.specs.declared.Datagram.{Datagram}
+use Rattle.feeding.specs.declared.Answer.the-variants.{Refused}
+use Rattle.feeding.specs.declared.Reply.{Reply}
+use Rattle.feeding.specs.Feed.{consumer, SessionState, stateOf, replyBy, feedOf}
+use Rattle.feeding.specs.Promises.{CallKept}
 use Rattle.session.proofs.Soundness.{sound-facts}
-use Rattle.receiver.proofs.Refinement.{state-safe, session-sound}
-use Rattle.receiver.proofs.CallParts.{fed-by}
-use Rattle.receiver.proofs.Agreement.{stateCall, on-state, call-safe}
+use Rattle.feeding.proofs.Refinement.{state-safe, session-sound}
+use Rattle.feeding.proofs.CallParts.{fed-by}
+use Rattle.feeding.proofs.Agreement.{stateCall, on-state, call-safe}
 
 -- ---- a call that is neither refused by 10 nor by 11 nor by 12
 

@@ -19,11 +19,11 @@ use Rattle.search.proofs.Datagrams.{lawful, prompt}
 use Rattle.session.specs.Session.{heldBytes, isSound, pieceRuling}
 use Rattle.session.specs.declared.Session.{Session}
 use Rattle.session.proofs.Soundness.{sound-facts}
-use Rattle.receiver.specs.declared.Answer.the-variants.{Datagram as HandedOut, Waiting, Refused}
-use Rattle.receiver.specs.Feed.{consumer, noDatagram, stateOf, replyOf, feedBy, feedOf}
-use Rattle.receiver.specs.CallParts.{replyAfter, replyAtOnce}
-use Rattle.receiver.proofs.Refinement.{facts-safe, session-state}
-use Rattle.receiver.proofs.CallParts.{fed-by}
+use Rattle.feeding.specs.declared.Answer.the-variants.{Datagram as HandedOut, Waiting, Refused}
+use Rattle.feeding.specs.Feed.{consumer, noDatagram, stateOf, replyOf, feedBy, feedOf}
+use Rattle.feeding.specs.CallParts.{replyAfter, replyAtOnce}
+use Rattle.feeding.proofs.Refinement.{facts-safe, session-state}
+use Rattle.feeding.proofs.CallParts.{fed-by}
 
 module _ (s : Session) (e : isSound s ≡ true) where
   -- nothing is decided yet of the bytes held

@@ -16,13 +16,13 @@ use Rattle.scan.proofs.Simulation.{Simulates, run-to, run-back}
 use Rattle.search.specs.Search.{rulesOf}
 use Rattle.session.specs.Session.{isSound}
 use Rattle.session.specs.declared.Session.{Session}
-use Rattle.receiver.specs.declared.Datagram.{Datagram}
-use Rattle.receiver.specs.declared.Reply.{Reply}
-use Rattle.receiver.specs.Feed.{consumer, SessionState, stateOf, sessionOf, replyBy, replyOf, feedOf, callBy, call, Calls}
+use Rattle.feeding.specs.declared.Datagram.{Datagram}
+use Rattle.feeding.specs.declared.Reply.{Reply}
+use Rattle.feeding.specs.Feed.{consumer, SessionState, stateOf, sessionOf, replyBy, replyOf, feedOf, callBy, call, Calls}
 use Rattle.search.proofs.Datagrams.{lawful}
-use Rattle.receiver.proofs.Refinement.{SafeOf, state-safe, state-of, session-sound}
-use Rattle.receiver.proofs.HistoryInvariant.{history-invariant}
-use Rattle.receiver.proofs.CallParts.{fed-scan}
+use Rattle.feeding.proofs.Refinement.{SafeOf, state-safe, state-of, session-sound}
+use Rattle.feeding.proofs.HistoryInvariant.{history-invariant}
+use Rattle.feeding.proofs.CallParts.{fed-scan}
 
 -- the scan's call on a state of a setup
 abbrev pub stateCall : Setup → SessionState → List ℕ → Fed SessionState Datagram

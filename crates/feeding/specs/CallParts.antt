@@ -10,8 +10,8 @@ use Rattle.scan.specs.Calls.{taking}
 use Rattle.scan.specs.Carry.{carrying}
 use Rattle.history.specs.History.{greatestCount}
 use Rattle.session.specs.declared.Session.{Session}
-use Rattle.receiver.specs.declared.Reply.{Reply}
-use Rattle.receiver.specs.Feed.{consumer, stateOf, replyOf}
+use Rattle.feeding.specs.declared.Reply.{Reply}
+use Rattle.feeding.specs.Feed.{consumer, stateOf, replyOf}
 
 -- the contents of a datagram from its readings and its other fields
 abbrev pub contentsWith : List (List ℤ) → Fields → Contents

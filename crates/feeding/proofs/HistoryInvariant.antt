@@ -20,11 +20,11 @@ use Rattle.search.specs.Search.{isDatagram}
 use Rattle.session.specs.Session.{axesRight}
 use Rattle.history.specs.History.{noHistory, historyNext}
 use Rattle.history.specs.declared.History.{History}
-use Rattle.receiver.specs.Feed.{historyAfter, historyRight, consumer}
+use Rattle.feeding.specs.Feed.{historyAfter, historyRight, consumer}
 use Rattle.session.proofs.AxisLaws.{axes-step, none-right}
 use Rattle.search.proofs.Datagrams.{datagram-length, datagram-parts}
-use Rattle.receiver.proofs.BySetup.{after-datagram}
-use Rattle.receiver.proofs.Refinement.{history-parts, parts-history}
+use Rattle.feeding.proofs.BySetup.{after-datagram}
+use Rattle.feeding.proofs.Refinement.{history-parts, parts-history}
 
 module _ (u : Setup) (ok : rulingOn u ≡ Accepted) where
   start-right : historyRight u 0 noHistory ≡ true

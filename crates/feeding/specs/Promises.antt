@@ -26,10 +26,10 @@ use Rattle.search.specs.Search.{isDatagram, limitsOf, verdictOf}
 use Rattle.history.specs.History.{noHistory}
 use Rattle.session.specs.Session.{heldBytes, isSound, opening}
 use Rattle.session.specs.declared.Session.{Session}
-use Rattle.receiver.specs.declared.Datagram.{Datagram}
-use Rattle.receiver.specs.declared.Answer.the-variants.{Refused}
-use Rattle.receiver.specs.Feed.{consumer, noDatagram, refusal, feedOf, Calls}
-use Rattle.receiver.specs.OneLength.{OneLength}
+use Rattle.feeding.specs.declared.Datagram.{Datagram}
+use Rattle.feeding.specs.declared.Answer.the-variants.{Refused}
+use Rattle.feeding.specs.Feed.{consumer, noDatagram, refusal, feedOf, Calls}
+use Rattle.feeding.specs.OneLength.{OneLength}
 
 -- ---- what the demands speak of
 

@@ -19,7 +19,7 @@ use Rattle.search.specs.Search.{verdictOf, verdictIn}
 use Rattle.search.proofs.Sensors.{verdict-sensor}
 use Rattle.history.specs.History.{historyNext}
 use Rattle.history.specs.declared.History.{History}
-use Rattle.receiver.specs.Feed.{datagramWith, historyAfter, tell}
+use Rattle.feeding.specs.Feed.{datagramWith, historyAfter, tell}
 
 -- the mark of one of the three groups
 pub kept-at : (u : Setup) (group : ℕ) → group < 3 → getD (groupsKept u) group false ≡ keeps u group

@@ -25,9 +25,9 @@ use Rattle.search.proofs.Datagrams.{lawful}
 use Rattle.session.specs.Session.{heldBytes, isSound, pieceRuling}
 use Rattle.session.specs.declared.Session.{Session}
 use Rattle.session.proofs.Soundness.{Facts}
-use Rattle.receiver.specs.Feed.{consumer, stateOf, replyBy, replyOf, refusal, feedBy, feedOf}
-use Rattle.receiver.proofs.Refinement.{count-held}
-use Rattle.receiver.specs.CallParts.{contentsWith, replyAfter, replyAtOnce, Room}
+use Rattle.feeding.specs.Feed.{consumer, stateOf, replyBy, replyOf, refusal, feedBy, feedOf}
+use Rattle.feeding.proofs.Refinement.{count-held}
+use Rattle.feeding.specs.CallParts.{contentsWith, replyAfter, replyAtOnce, Room}
 
 -- ---- a datagram as it comes back
 

@@ -1,0 +1,12 @@
+-- Laws of feeding, and the proofs of the demands.
+pub mod BySetup
+pub mod Refinement
+pub mod CallParts
+pub mod HistoryInvariant
+pub mod Agreement
+pub mod EachCall
+pub mod OneLength
+pub mod ContainedAt
+pub mod AxisAt
+pub mod Demands
+pub mod WorkedExample
