@@ -1,8 +1,9 @@
 -- The answer and the buffer of a line under a setup.
 use Prim.Native.Nat.{ℕ}
-use mathlib.Core.Path.{_≡_, refl, ap, _∙_}
+use mathlib.Core.Path.{_≡_, refl, sym, ap, _∙_}
 use mathlib.Core.List.{List}
 use lib.IntN.{ℤ}
+use lib.ListN.{length}
 use Rattle.setup.specs.Setup.{setupRules, rulingOn}
 use Rattle.setup.specs.Sensor.{sensorOf}
 use Rattle.setup.specs.declared.Setup.{Setup}
@@ -12,7 +13,7 @@ use Rattle.setup.proofs.Sensors.{sensor-groups}
 use Rattle.motion.specs.declared.Gap.{Gap}
 use Rattle.motion.specs.declared.Totals.{Totals}
 use Rattle.motion.proofs.AcceptedSetup.{accepted-kept}
-use Rattle.text_line.specs.ShownLine.{shownRuling, shownAnswer, shownBuffer}
+use Rattle.text_line.specs.ShownLine.{shownRules, shownRuling, shownAnswer, shownBuffer}
 use Rattle.text_line.specs.declared.Shown.{Shown}
 use Rattle.text_line.specs.declared.Written.{Written}
 use Rattle.text_line.specs.declared.Written.the-variants.{Refused}
@@ -21,13 +22,16 @@ use Rattle.text.specs.TextLine.{shownBy, shownOf, lineText, lineRules, l
 -- the sensor that an accepted setup describes shows what the setup shows
 pub sensor-shown : (u : Setup) → rulingOn u ≡ ruling.the-variants.Accepted → shownOf (sensorOf u .row) (sensorOf u .units) ≡ shownBy u
 unfolding shownOf shownBy
-sensor-shown u e = rw (sensor-groups u e, accepted-kept u e)
+sensor-shown u e = λ i. record { carried = sym (sensor-groups u e) i; kept = accepted-kept u e i }
 
 module _ (b : List ℕ) (setup : Setup) (ordinal counter latency : ℕ) (gap : Gap) (readings : List (List ℤ)) (statuses : List ℕ) (totals : Totals) where
   pub setup-refused : {n : ℕ} → rulingOn setup ≡ ruling.the-variants.Refused n
       → (Refused n ≡ lineAnswer b setup ordinal counter latency gap readings statuses totals) × (b ≡ lineBuffer b setup ordinal counter latency gap readings statuses totals)
   unfolding lineAnswer lineBuffer lineRuling lineRules rulingOn
-  setup-refused e = rw (first-refused (setupRules setup) _ e) (refl, refl)
+  setup-refused {n} e =
+      let r : lineRuling b setup ordinal counter latency gap readings statuses totals ≡ ruling.the-variants.Refused n =
+      first-refused (setupRules setup) (shownRules ordinal readings totals (lineText setup ordinal counter latency gap readings statuses totals) (length b)) e in
+      rw r (refl, refl)
 
   -- an accepted one is written as what it shows
   module _ (e : rulingOn setup ≡ ruling.the-variants.Accepted) where
