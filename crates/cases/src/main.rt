@@ -161,7 +161,7 @@ fn accepts_case(given: &[u8]) -> bool {
         Described::Accepted(sensor) => {
             let row = sensor.row;
             let part = &bytes[0..count];
-            wire::is_acceptable(sensor.identifier, row, sensor.terminated, part) == expected
+            acceptance::is_acceptable(sensor.identifier, row, sensor.terminated, part) == expected
         }
         Described::Refused(_) => !expected,
     }

@@ -16,8 +16,8 @@ use Rattle.setup.specs.Sensor.{rateOf, unitOf, sensorOf}
 use Rattle.setup.specs.Setup.{setupRules, rulingOn, lengthOf}
 use Rattle.setup.specs.declared.Setup.{Setup}
 use Rattle.setup.specs.declared.Ruling.the-variants.{Accepted}
-use Rattle.wire.specs.Acceptable.{checkRight, endingRight, acceptableIn, acceptable}
 use Rattle.wire.specs.Fields.{fieldsOfPart, contentsOf, fieldsOf}
+use Rattle.acceptance.specs.Acceptable.{checkRight, endingRight, acceptableIn, acceptable}
 use Rattle.motion.specs.Status.{unfit}
 use Rattle.motion.specs.Gaps.{datagrams as count, elapsed, missedAfter, gapAt}
 use Rattle.motion.specs.declared.Gap.the-variants.{Missed}

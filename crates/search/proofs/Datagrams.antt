@@ -12,8 +12,8 @@ use Rattle.setup.specs.Setup.{rulingOn, lengthOf}
 use Rattle.setup.specs.declared.Setup.{Setup}
 use Rattle.setup.specs.declared.Ruling.the-variants.{Accepted}
 use Rattle.setup.proofs.Refusals as refusals
-use Rattle.wire.specs.Acceptable.{acceptable}
-use Rattle.wire.proofs.Acceptance.{accepted, accepted-length}
+use Rattle.acceptance.specs.Acceptable.{acceptable}
+use Rattle.acceptance.proofs.Acceptance.{accepted, accepted-length}
 use Rattle.scan.specs.Rules.{Lawful}
 use Rattle.scan.specs.OneLength.{Prompt}
 use Rattle.scan.proofs.OneLength.{one-length-lawful, one-length-prompt}

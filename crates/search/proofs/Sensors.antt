@@ -12,8 +12,8 @@ use Rattle.setup.specs.declared.Setup.{Setup}
 use Rattle.setup.specs.declared.Sensor.{Sensor}
 use Rattle.setup.specs.declared.Ruling.the-variants.{Accepted}
 use Rattle.setup.proofs.Sensors.{sensor-length}
-use Rattle.wire.specs.Acceptable.{acceptableIn}
-use Rattle.wire.proofs.Acceptance.{sensor-acceptable}
+use Rattle.acceptance.specs.Acceptable.{acceptableIn}
+use Rattle.acceptance.proofs.Acceptance.{sensor-acceptable}
 use Rattle.scan.specs.Front.{front}
 use Rattle.scan.specs.OneLength.{oneCandidate}
 use Rattle.search.specs.Search.{isDatagram, verdictOf, isDatagramIn, verdictIn}

@@ -8,7 +8,7 @@ use Rattle.setup.specs.Setup.{lengthOf}
 use Rattle.setup.specs.declared.Setup.{Setup}
 use Rattle.setup.specs.Layout.{layoutOf, lengthIn}
 use Rattle.setup.specs.declared.Sensor.{Sensor}
-use Rattle.wire.specs.Acceptable.{acceptableIn, acceptable}
+use Rattle.acceptance.specs.Acceptable.{acceptableIn, acceptable}
 use Rattle.scan.specs.Scan.{Verdict, First, ends, finds}
 use Rattle.scan.specs.Front.{front}
 use Rattle.scan.specs.Rules.{Limits, Rules, verdict}

@@ -6,7 +6,7 @@ ghost use lib.Dec.{ltb};
 ghost use lib.ListN.{length, drop};
 ghost use Rattle.bytes.specs.Bytes.{indexOf};
 ghost use Rattle.setup.specs.Layout.{layoutOf};
-ghost use Rattle.wire.specs.Acceptable.{acceptableIn};
+ghost use Rattle.acceptance.specs.Acceptable.{acceptableIn};
 ghost use Rattle.scan.specs.Scan.{first};
 ghost use Rattle.search.specs.Search.{sizeIn, verdictIn, placeOf};
 
@@ -30,7 +30,7 @@ fn is_datagram(sensor: Sensor, s: &[u8]) -> bool
     ensures { λ r. ⌜ r ≡ acceptableIn (sensor .identifier) (layoutOf (sensor .row) (sensor .terminated)) (now (s .entry)) ⌝ }
 {
     let row = sensor.row;
-    wire::is_acceptable(sensor.identifier, row, sensor.terminated, s)
+    acceptance::is_acceptable(sensor.identifier, row, sensor.terminated, s)
 }
 
 // Whether a byte stands among the sixteen from a place on. All sixteen are looked at, which the compiler does at once.

@@ -1,29 +1,17 @@
 -- Datagrams as the definitions compute them.
 use Prim.Native.Nat.{ℕ}
-use mathlib.Core.Bool.{true}
 use mathlib.Core.List.{List, [], _∷_}
 use mathlib.Core.Path.{_≡_, refl}
 use lib.IntN.{pos}
 use Rattle.integers.specs.Bytes.{bigEndian, twosComplement, signedBytes}
-use Rattle.crc.specs.Check.{stim300, shift, shifts, byteStep, register, padding, covered, checkOf, check32}
-use Rattle.setup.specs.Layout.{partsOf, rowAt, partsAt}
-use Rattle.setup.specs.declared.Setup.{Setup}
-use Rattle.wire.specs.Acceptable.{checkRight, endingRight, acceptableIn, acceptable}
+use Rattle.setup.specs.Layout.{partsOf, partsAt}
 use Rattle.wire.specs.Fields.{fieldsOfPart, fieldsOf}
 use Rattle.wire.proofs.FieldBytes.{zeroAxes}
 
 -- the first datagram of 01, The text line: gyro X 8388600, counter 2
-abbrev first : List ℕ
+abbrev pub first : List ℕ
 first =
     0x90 ∷ 0x7F ∷ 0xFF ∷ 0xF8 ∷ 0x00 ∷ 0x00 ∷ 0x00 ∷ 0x00 ∷ 0x00 ∷ 0x00 ∷ 0x00 ∷ 0x02 ∷ 0x00 ∷ 0x00 ∷ 0x87 ∷ 0xD2 ∷ 0xD9 ∷ 0xF9 ∷ []
-
-abbrev exampleSetup : Setup
-exampleSetup = record { rate = 1000; identifier = 0x90; termination = 0; units = 3 ∷ 0 ∷ 0 ∷ []; shifts = 21 ∷ 0 ∷ 0 ∷ [] }
-
-pub first-acceptable : acceptable exampleSetup first ≡ true
-unfolding
-    acceptable acceptableIn checkRight endingRight rowAt partsOf bigEndian check32 checkOf stim300 covered padding register byteStep shifts shift
-first-acceptable = refl
 
 pub first-fields : fieldsOf 0x90 first
     ≡ record {

@@ -3,6 +3,4 @@ pub mod RowPlaces
 pub mod FieldPlaces
 pub mod FieldBytes
 pub mod FieldRanges
-pub mod Acceptance
-pub mod Written
 pub mod Examples

@@ -1,4 +1,3 @@
--- What stands in a datagram: whether a list of bytes is acceptable, and its fields.
-pub mod Acceptable
+-- What stands in a datagram: its fields, and their places.
 pub mod Fields
 pub mod Places

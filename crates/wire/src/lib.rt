@@ -1,13 +1,12 @@
-// What stands in a datagram: whether it is acceptable, and its fields (01, Layout by identifier, The check, The scan).
+// What stands in a datagram: its fields, their places and its length (01, Layout by identifier).
 use setup::Row;
 ghost use mathlib.Core.Path.{_≡_};
-ghost use mathlib.Core.Bool.{false, cond};
+ghost use mathlib.Core.Bool.{cond};
 ghost use mathlib.Core.List.{[], _∷_, map};
 ghost use Prim.Native.Nat.{_+_, _≤_};
-ghost use lib.ListN.{length, getD};
+ghost use lib.ListN.{getD};
 ghost use Rattle.integers.specs.Bytes.{bigEndian, signedBytes};
 ghost use Rattle.setup.specs.Layout.{aux, counter, widths, bytes, partsOf, layoutOf, lengthIn, placed};
-ghost use Rattle.wire.specs.Acceptable.{checkRight, endingRight, acceptableIn};
 ghost use Rattle.wire.specs.Fields.{groups, temperatureSets, window, signedField, axes, contentsOf, besidesReadings};
 ghost use Rattle.wire.specs.Places.{groupsEnd, temperaturesEnd, fieldsAt, byteAt, bytesAt};
 
@@ -118,42 +117,6 @@ pub fn length_of(row: Row, terminated: bool) -> usize
     ensures { λ r. ⌜ r ≡ lengthIn (layoutOf row terminated) ⌝ }
 {
     check_place(row) + CHECK + if_carried(terminated, ENDING)
-}
-
-// The bytes behind the check are right: 0x0D 0x0A, or none.
-fn ending_right(row: Row, terminated: bool, s: &[u8]) -> bool
-    requires { ⌜ length (now s) ≡ lengthIn (layoutOf row terminated) ⌝ }
-    ensures { λ r. ⌜ r ≡ endingRight (layoutOf row terminated) (now (s .entry)) ⌝ }
-{
-    if terminated {
-        let place = length_of(row, false);
-        (s[place] == 0x0D) & (s[place + 1] == 0x0A)
-    } else {
-        true
-    }
-}
-
-// The bytes of the check are the check of those before them; the ending doesn't matter here.
-fn check_right(row: Row, s: &[u8]) -> bool
-    requires { ⌜ lengthIn (layoutOf row false) ≤ length (now s) ⌝ }
-    ensures { λ r. ⌜ r ≡ checkRight (layoutOf row false) (now (s .entry)) ⌝ }
-{
-    let place = check_place(row);
-    let sent = integers::four_bytes_of(s[place], s[place + 1], s[place + 2], s[place + 3]);
-    sent == crc::crc32(&s[..place])
-}
-
-// Whether bytes are an acceptable datagram. What is cheap is tested before the check is computed.
-pub fn is_acceptable(identifier: u8, row: Row, terminated: bool, s: &[u8]) -> bool
-    ensures { λ r. ⌜ r ≡ acceptableIn identifier (layoutOf row terminated) (now (s .entry)) ⌝ }
-{
-    if s.len() != length_of(row, terminated) {
-        return false;
-    }
-    if (s[0] != identifier) | !ending_right(row, terminated, s) {
-        return false;
-    }
-    check_right(row, s)
 }
 
 // Places lie within the longest datagram: 59 bytes before the check, 65 in all. Bytes beyond the end of `s` read as 0.

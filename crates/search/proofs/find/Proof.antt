@@ -15,7 +15,7 @@ use Rattle.bytes.specs.Bytes.{indexOf}
 use Rattle.setup.specs.Layout.{layoutOf}
 use Rattle.setup.specs.declared.Sensor.{Sensor}
 use Rattle.setup.proofs.Layouts.{length-range}
-use Rattle.wire.specs.Acceptable.{acceptableIn}
+use Rattle.acceptance.specs.Acceptable.{acceptableIn}
 use Rattle.scan.specs.Scan.{first, later}
 use Rattle.scan.proofs.ScanLaws.{later-zero, later-later}
 use Rattle.scan.proofs.OneLength.{identifier-told, other-told}

@@ -1,9 +1,9 @@
 use native.Mathlib.Omega.{arith}
 use mathlib.Core.Path.{sym}
-use Rattle.wire.proofs.Acceptance.{ending-bytes, ending-none}
+use Rattle.acceptance.proofs.Acceptance.{ending-bytes, ending-none}
 use borrow.Author.Needs.{needs}
-use Rattle.wire.proofs.ending_right.Statement.{statement}
-use Rattle.wire.proofs.ending_right.Tie as tie
+use Rattle.acceptance.proofs.ending_right.Statement.{statement}
+use Rattle.acceptance.proofs.ending_right.Tie as tie
 
 length-of-requires : tie.Need-length-of-requires
 length-of-requires c κs = search needs

@@ -22,8 +22,8 @@ use Rattle.setup.specs.declared.Ruling.the-variants as ruling
 use Rattle.setup.proofs.Layouts.{length-range}
 use Rattle.setup.proofs.Refusals as refusals
 use Rattle.setup.proofs.Sensors.{sensor-row}
-use Rattle.wire.specs.Acceptable.{same, checkRight, endingRight, acceptableIn, acceptableAt, acceptable}
 use Rattle.wire.proofs.FieldPlaces.{window-within, two-bytes, four-bytes}
+use Rattle.acceptance.specs.Acceptable.{same, checkRight, endingRight, acceptableIn, acceptableAt, acceptable}
 
 -- what an acceptable list of an identifier and a layout is known by
 pub record Right (i : ℕ) (l : Layout) (s : List ℕ) : Type 0 where

@@ -22,8 +22,8 @@ use Rattle.setup.specs.declared.Setup.{Setup}
 use Rattle.setup.proofs.Ranges.{unlisted}
 use Rattle.setup.proofs.Layouts.{before-range, length-parts}
 use Rattle.setup.proofs.Refusals.{listed-length}
-use Rattle.wire.specs.Acceptable.{same, checkRight, endingRight, acceptable}
-use Rattle.wire.proofs.Acceptance.{Facts, accepted, accepts}
+use Rattle.acceptance.specs.Acceptable.{same, checkRight, endingRight, acceptable}
+use Rattle.acceptance.proofs.Acceptance.{Facts, accepted, accepts}
 
 -- a number below 2 ^ 32 as four bytes, most significant byte first
 abbrev pub fourBytes : ℕ → List ℕ

@@ -2,10 +2,10 @@ use native.Mathlib.Omega.{arith}
 use mathlib.Core.Path.{_∙_}
 use borrow.Author.Tests.{eq-eqb, ne-eqb}
 use Rattle.setup.proofs.Layouts.{length-range}
-use Rattle.wire.proofs.Acceptance.{tested}
+use Rattle.acceptance.proofs.Acceptance.{tested}
 use borrow.Author.Needs.{needs}
-use Rattle.wire.proofs.is_acceptable.Statement.{statement}
-use Rattle.wire.proofs.is_acceptable.Tie as tie
+use Rattle.acceptance.proofs.is_acceptable.Statement.{statement}
+use Rattle.acceptance.proofs.is_acceptable.Tie as tie
 
 length-of-requires : tie.Need-length-of-requires
 length-of-requires c κs = search needs

@@ -1,0 +1,2 @@
+-- Whether a list of bytes is an acceptable datagram.
+pub mod Acceptable
