@@ -1,6 +1,9 @@
 use native.Mathlib.Omega.{arith}
-use mathlib.Core.Path.{_∙_}
+use mathlib.Core.Path.{_≡_}
+use mathlib.Core.Bool.{true, false, not, _||_}
 use borrow.Author.Tests.{eq-eqb, ne-eqb}
+use lib.Dec.{eqb}
+use lib.ListN.{getD}
 use Rattle.setup.proofs.Layouts.{length-range}
 use Rattle.acceptance.proofs.Acceptance.{tested}
 use borrow.Author.Needs.{needs}
@@ -26,12 +29,13 @@ ending-right-requires c κs = search needs
 returns-2 : tie.Need-returns-2
 returns-2 c =
     let a = c .before .before .before .before .before .before .args in
+    let wrong : (not (eqb (getD (a .s .now) 0 0) (a .identifier)) || not (c .before .ending-right .result)) ≡ true = c .if2 .taken in
     rw (
       tested (a .identifier) (a .row) (a .terminated) (a .s .now),
       ← c .before .before .before .before .length-of .ensures,
       eq-eqb _ _ (c .before .before .before .if1 .left),
       ← c .before .ending-right .ensures,
-      c .if2 .taken,
+      wrong,
     )
 
 check-right-requires : tie.Need-check-right-requires
@@ -40,12 +44,13 @@ check-right-requires c κs = search needs
 returns-3 : tie.Need-returns-3
 returns-3 c =
     let a = c .before .before .before .before .before .before .before .args in
+    let fine : (not (eqb (getD (a .s .now) 0 0) (a .identifier)) || not (c .before .before .ending-right .result)) ≡ false = c .before .if2 .left in
     rw (
       tested (a .identifier) (a .row) (a .terminated) (a .s .now),
       ← c .before .before .before .before .before .length-of .ensures,
       eq-eqb _ _ (c .before .before .before .before .if1 .left),
       ← c .before .before .ending-right .ensures,
-      c .before .if2 .left,
+      fine,
     )
     (c .check-right .ensures)
 

@@ -1,5 +1,8 @@
-use mathlib.Core.Path.{sym, _∙_}
+use mathlib.Core.Path.{_≡_, sym, _∙_}
+use mathlib.Core.Bool.{true, _||_}
 use borrow.Author.Tests.{eq-eqb, ne-eqb, not-false}
+use lib.Dec.{eqb, ltb}
+use lib.ListN.{length}
 use Rattle.setup.specs.Setup.{rulingOn}
 use Rattle.setup_line.specs.SetupLine.{lineRules, lineRead}
 use borrow.Author.Needs.{needs}
@@ -11,7 +14,10 @@ line-refused-requires c κs = search needs
 
 returns : tie.Need-returns
 unfolding lineRead lineRules
-returns c = rw (c .line-refused .ensures, c .before .if1 .taken)
+returns c =
+    let s = c .before .before .before .args .line .now in
+    let wrong : (eqb (length s) 0 || ltb 64 (length s)) ≡ true = c .before .if1 .taken in
+    rw (c .line-refused .ensures, wrong)
 
 field-count-requires : tie.Need-field-count-requires
 field-count-requires c κs = search needs
