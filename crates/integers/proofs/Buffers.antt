@@ -8,7 +8,7 @@ use native.Mathlib.Decide.{decLe}
 use native.Mathlib.Omega.{arith}
 use borrow.Rule.Slice.PartMut.{midOf, putMid}
 use lib.ListN.{length, take, drop, getD, set, replicate, length-append, length-drop, drop-of-length-le}
-use lib.Seq.{take-all, take-suc, take-at, drop-at, length-take-le, drop-drop, set-append-seam, append-snoc, sets, sets-eq}
+use lib.Seq.{take-all, take-length, take-suc, take-at, drop-at, length-take-le, drop-drop, set-append-seam, append-snoc, sets, sets-eq}
 use Rattle.integers.specs.Buffers.{padded}
 
 -- ---- parts
@@ -112,3 +112,12 @@ put-part b text a h =
     ∙ ap (λ (l : List ℕ). take a b ++ (text ++ l)) (drop-drop (length text) a b)
     ∙ sym (append-assoc (take a b) text (drop (a + length text) b))
     ∙ sym (sets-eq text b a h)
+
+-- bytes copied to the front of the part of a buffer of n from a place on
+pub copied-part :
+    (b s : List ℕ) (a n : ℕ) {e : List ℕ} → length b ≡ n → a + length s ≤ n
+    → e ≡ take (length s) s ++ drop (length s) (midOf a (n - a) b) → putMid a (n - a) b e ≡ sets b a s
+copied-part b s a n l h e =
+    rw (← l)
+    (ap (putMid a (length b - a) b) (rw (← l) at e ∙ ap (λ (t : List ℕ). t ++ drop (length s) (midOf a (length b - a) b)) (take-length s))
+    ∙ put-part b s a (omega arith))

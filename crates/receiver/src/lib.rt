@@ -164,12 +164,7 @@ fn put(buffer: [u8; 128], place: usize, bytes: &[u8]) -> [u8; 128]
     ensures { λ r. ⌜ r ≡ sets buffer place (now (bytes .entry)) ⌝ }
 {
     let mut written = buffer;
-    let mut i = 0;
-    while i < bytes.len() {
-        let at = place + i;
-        written[at] = bytes[i];
-        i += 1;
-    }
+    bytes::copy(bytes, &mut written[place..]);
     written
 }
 

@@ -1,60 +1,30 @@
--- `receiver::put` meets its contract: the bytes so far, written from the place on. Assumes nothing.
-use Prim.Native.Nat.{_-_, _≤_}
-use mathlib.Core.Path.{_≡_, refl, ap, _∙_}
-use native.Mathlib.Omega.{arith}
-use lib.ListN.{length, take}
-use lib.Seq.{take-all, sets}
-use Rattle.integers.proofs.Buffers.{sets-more}
+-- `receiver::put` meets its contract. Assumes nothing.
+use mathlib.Core.Path.{_≡_}
+use borrow.Author.Needs.{needs}
+use lib.ListN.{length}
+use Rattle.integers.proofs.Buffers.{copied-part}
 use Rattle.receiver.proofs.put.Statement.{statement}
 use Rattle.receiver.proofs.put.Tie as tie
 
-abbrev Inv-loop : tie.InvT-loop
-Inv-loop place bytes written₀ i₀ written i = (written ≡ sets written₀ place (take i bytes)) × (i ≤ length bytes)
+full : (c : tie.Start) → length (c .args .buffer) ≡ 128
+full c = search needs
 
-abbrev μ-loop : tie.MeasureT-loop
-μ-loop place bytes written₀ i₀ written i = length bytes - i
+sub-copy : tie.Need-sub-copy
+sub-copy c = search needs
 
-loop-holds : tie.Need-loop-holds Inv-loop μ-loop
-loop-holds c = (refl, omega arith)
+part-written-start : tie.Need-part-written-start
+part-written-start c = search needs
 
-add-at : tie.Need-add-at Inv-loop μ-loop
-add-at c = omega arith
+part-written-end : tie.Need-part-written-end
+part-written-end c = search needs
 
-shared-slice-read-written : tie.Need-shared-slice-read-written Inv-loop μ-loop
-shared-slice-read-written c = omega arith
+copy-requires : tie.Need-copy-requires
+copy-requires c κs = search needs
 
-array-write-written : tie.Need-array-write-written Inv-loop μ-loop
-array-write-written c = omega arith
-
-add-i : tie.Need-add-i Inv-loop μ-loop
-add-i c = omega arith
-
-loop-less : tie.Need-loop-less Inv-loop μ-loop
-loop-less c = omega arith
-
-loop-again : tie.Need-loop-again Inv-loop μ-loop
-loop-again c =
-    let l = c .before .before .loop in
-    let a = c .before .before .before .args in
-    (rw (l .inv .0) (sets-more (a .buffer) (a .place) (a .bytes .now) (l .i) (omega arith)), omega arith)
-
-returns : tie.Need-returns Inv-loop μ-loop
+returns : tie.Need-returns
 returns c =
-    let l = c .before .loop in
-    let a = c .before .before .args in
-    l .inv .0 ∙ ap (sets (a .buffer) (a .place)) (take-all (l .i) (a .bytes .now) (omega arith))
+    let s = c .before .before .before .before in
+    copied-part (s .args .buffer) (s .args .bytes .now) (s .args .place) 128 (full s) (s .pre) (c .before .copy .ensures .1)
 
 pub put-spec : {M : Type 1} → statement M
-put-spec =
-    tie.close
-    (tie.spec
-    Inv-loop
-    μ-loop
-    loop-holds
-    add-at
-    shared-slice-read-written
-    array-write-written
-    add-i
-    loop-less
-    loop-again
-    returns)
+put-spec = tie.close (tie.spec sub-copy part-written-start part-written-end copy-requires returns)
