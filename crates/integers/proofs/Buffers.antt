@@ -3,12 +3,11 @@ use Prim.Native.Nat.{ℕ, zero, suc, _+_, _-_, _≤_, _<_, min}
 use mathlib.Core.Path.{_≡_, refl, sym, ap, _∙_}
 use mathlib.Core.List.{List, [], _∷_, _++_, append-assoc, append-nil}
 use native.Mathlib.Nat.{add-zero, zero-add, add-suc, suc-add}
-use native.Mathlib.Numerals.{add-one}
 use native.Mathlib.Decide.{decLe}
 use native.Mathlib.Omega.{arith}
 use borrow.Rule.Slice.PartMut.{midOf, putMid}
-use lib.ListN.{length, take, drop, getD, set, replicate, length-append, length-drop, drop-of-length-le}
-use lib.Seq.{take-all, take-length, take-suc, take-at, drop-at, length-take-le, drop-drop, set-append-seam, append-snoc, sets, sets-eq}
+use lib.ListN.{length, take, drop, getD, set, replicate, length-append, length-drop, length-replicate, drop-of-length-le}
+use lib.Seq.{take-all, take-length, take-at, drop-at, drop-drop, set-append-seam, append-snoc, sets, sets-eq}
 use Rattle.integers.specs.Buffers.{padded}
 
 -- ---- parts
@@ -62,15 +61,6 @@ padded-snoc n l x h = go (n - length l) refl
         let k : n - length (l ++ (x ∷ [])) ≡ m = omega (arith, length-append l (x ∷ [])) in
         rw (e, k) (set-append-seam l 0 (replicate m 0) x ∙ sym (append-snoc l x (replicate m 0)))
 
--- the next byte of p
-pub padded-more :
-    (n : ℕ) (p : List ℕ) (i : ℕ) → i < length p → i < n → set (padded n (take i p)) i (getD p i 0) ≡ padded n (take (i + 1) p)
-padded-more n p i h g =
-    let l : length (take i p) ≡ i = length-take-le i p (omega arith) in
-    ap (λ (k : ℕ). set (padded n (take i p)) k (getD p i 0)) (sym l)
-    ∙ padded-snoc n (take i p) (getD p i 0) (omega arith)
-    ∙ ap (padded n) (sym (take-suc p i 0 h) ∙ ap (λ (m : ℕ). take m p) (sym (add-one i)))
-
 -- bytes written behind l, one after the other
 pub padded-sets : (n : ℕ) (l p : List ℕ) (k : ℕ) → k ≡ length l → length l + length p ≤ n → sets (padded n l) k p ≡ padded n (l ++ p)
 padded-sets n l [] k e h = ap (padded n) (sym (append-nil l))
@@ -86,15 +76,6 @@ sets-append b i [] ys = ap (λ (k : ℕ). sets b k ys) (sym (add-zero i))
 sets-append b i (x ∷ xs) ys =
     sets-append (set b i x) (suc i) xs ys
     ∙ ap (λ (k : ℕ). sets (sets (set b i x) (suc i) xs) k ys) (suc-add i (length xs) ∙ sym (add-suc i (length xs)))
-
--- the next byte of p, behind those before it
-pub sets-more :
-    (b : List ℕ) (i : ℕ) (p : List ℕ) (j : ℕ) → j < length p → set (sets b i (take j p)) (i + j) (getD p j 0) ≡ sets b i (take (j + 1) p)
-sets-more b i p j h =
-    let l : length (take j p) ≡ j = length-take-le j p (omega arith) in
-    ap (λ (k : ℕ). set (sets b i (take j p)) (i + k) (getD p j 0)) (sym l)
-    ∙ sym (sets-append b i (take j p) (getD p j 0 ∷ []))
-    ∙ ap (sets b i) (sym (take-suc p j 0 h) ∙ ap (λ (m : ℕ). take m p) (sym (add-one j)))
 
 -- a text at the front of a buffer
 pub put-front : (b text : List ℕ) → length text ≤ length b → sets b 0 text ≡ text ++ drop (length text) b
@@ -121,3 +102,12 @@ copied-part b s a n l h e =
     rw (← l)
     (ap (putMid a (length b - a) b) (rw (← l) at e ∙ ap (λ (t : List ℕ). t ++ drop (length s) (midOf a (length b - a) b)) (take-length s))
     ∙ put-part b s a (omega arith))
+
+-- and to the front of zeros
+pub copied-front : (n : ℕ) (s : List ℕ) → length s ≤ n → take (length s) s ++ drop (length s) (replicate n 0) ≡ padded n s
+copied-front n s h =
+    let all : n ≡ n - 0 = omega arith in
+    ap (λ (t : List ℕ). t ++ drop (length s) (replicate n 0)) (take-length s)
+    ∙ sym (put-front (replicate n 0) s (omega (arith, length-replicate {A = ℕ} n 0)))
+    ∙ ap (λ (k : ℕ). sets (replicate k 0) 0 s) all
+    ∙ padded-sets n [] s 0 refl (omega arith)

@@ -65,11 +65,7 @@ fn held_array(bytes: &[u8]) -> [u8; 64]
 {
     let count = fitting(bytes.len());
     let mut held = [0u8; 64];
-    let mut i = 0;
-    while i < count {
-        held[i] = bytes[i];
-        i += 1;
-    }
+    bytes::copy(&bytes[..count], &mut held);
     held
 }
 
