@@ -3,7 +3,7 @@
 ghost use mathlib.Core.Path.{_≡_};
 ghost use mathlib.Core.List.{[], _∷_};
 ghost use Prim.Native.Nat.{_+_, _*_, _%_, _^_, _≤_};
-ghost use lib.ListN.{length, getD, drop};
+ghost use lib.ListN.{length, drop};
 ghost use Rattle.crc.specs.Check.{mpeg2, shift, shifts, byteStep, register, covered, checkOf, check32};
 ghost use Rattle.crc.specs.Wide.{widePolynomial, remainder};
 
@@ -104,19 +104,16 @@ fn remainder_of(c: u64) -> u32
     eight_shifts(eight_shifts(halfway)) ^ ((c % 0x100000000) as u32)
 }
 
-fn byte_or_zero(s: &[u8], i: usize) -> u8
-    ensures { λ r. ⌜ r ≡ getD (now (s .entry)) i 0 ⌝ }
-{
-    if i < s.len() { s[i] } else { 0 }
-}
-
 // The register after the bytes from i on, of which fewer than four are left, and the zero bytes.
 fn last_step(c: u64, s: &[u8], i: usize) -> u64
     requires { ⌜ (i % 4 ≡ 0) × (length (now s) ≤ i + 3) ⌝ }
     ensures { λ r. ⌜ remainder r ≡ register 32 0x04C11DB7 (remainder c) (drop i (covered 4 (now (s .entry)))) ⌝ }
 {
     if i < s.len() {
-        word_step(c, s[i], byte_or_zero(s, i + 1), byte_or_zero(s, i + 2), 0)
+        let first = s[i];
+        let second = integers::byte_or_zero(s, i + 1);
+        let third = integers::byte_or_zero(s, i + 2);
+        word_step(c, first, second, third, 0)
     } else {
         c
     }

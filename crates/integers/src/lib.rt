@@ -2,6 +2,7 @@
 ghost use mathlib.Core.Path.{_≡_};
 ghost use mathlib.Core.List.{[], _∷_};
 ghost use lib.IntN.{natAbs};
+ghost use lib.ListN.{getD};
 ghost use Rattle.integers.specs.Bytes.{bigEndian, signedBytes};
 ghost use Rattle.integers.specs.Ranges.{isZero, within, inReading};
 
@@ -73,4 +74,11 @@ pub fn fits_reading(z: i32) -> bool
     ensures { λ r. ⌜ r ≡ inReading z ⌝ }
 {
     (-8388608 <= z) & (z <= 8388607)
+}
+
+// The byte at a place, 0 beyond the end.
+pub fn byte_or_zero(s: &[u8], place: usize) -> u8
+    ensures { λ r. ⌜ r ≡ getD (now (s .entry)) place 0 ⌝ }
+{
+    if place < s.len() { s[place] } else { 0 }
 }

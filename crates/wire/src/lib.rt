@@ -119,14 +119,8 @@ pub fn length_of(row: Row, terminated: bool) -> usize
     check_place(row) + CHECK + if_carried(terminated, ENDING)
 }
 
-// Places lie within the longest datagram: 59 bytes before the check, 65 in all. Bytes beyond the end of `s` read as 0.
-fn byte_or_zero(s: &[u8], at: usize) -> u8
-    ensures { λ r. ⌜ r ≡ getD (now (s .entry)) at 0 ⌝ }
-{
-    if at < s.len() { s[at] } else { 0 }
-}
-
-// Three bytes of a reading. Where they are all there, one test is enough.
+// Three bytes of a reading. Where they are all there, one test is enough; bytes beyond the end read as 0. Places lie within the longest
+// datagram: 59 bytes before the check, 65 in all.
 fn reading_at(s: &[u8], at: usize) -> i32
     requires { ⌜ at ≤ 65 ⌝ }
     ensures { λ r. ⌜ r ≡ signedBytes (window 3 at (now (s .entry))) ⌝ }
@@ -135,9 +129,9 @@ fn reading_at(s: &[u8], at: usize) -> i32
         integers::reading_of(s[at], s[at + 1], s[at + 2])
     } else {
         integers::reading_of(
-            byte_or_zero(s, at),
-            byte_or_zero(s, at + 1),
-            byte_or_zero(s, at + 2),
+            integers::byte_or_zero(s, at),
+            integers::byte_or_zero(s, at + 1),
+            integers::byte_or_zero(s, at + 2),
         )
     }
 }
@@ -149,7 +143,10 @@ fn temperature_at(s: &[u8], at: usize) -> i32
     if at + 1 < s.len() {
         integers::temperature_of(s[at], s[at + 1])
     } else {
-        integers::temperature_of(byte_or_zero(s, at), byte_or_zero(s, at + 1))
+        integers::temperature_of(
+            integers::byte_or_zero(s, at),
+            integers::byte_or_zero(s, at + 1),
+        )
     }
 }
 
@@ -160,7 +157,10 @@ fn latency_at(s: &[u8], at: usize) -> u16
     if at + 1 < s.len() {
         integers::unsigned_of(s[at], s[at + 1])
     } else {
-        integers::unsigned_of(byte_or_zero(s, at), byte_or_zero(s, at + 1))
+        integers::unsigned_of(
+            integers::byte_or_zero(s, at),
+            integers::byte_or_zero(s, at + 1),
+        )
     }
 }
 
@@ -211,7 +211,7 @@ fn byte_at(s: &[u8], place: usize, skipped: usize) -> u8
     if place == 0 {
         return 0;
     }
-    byte_or_zero(s, place + skipped)
+    integers::byte_or_zero(s, place + skipped)
 }
 
 fn bytes_at(s: &[u8], places: [usize; 3], skipped: usize) -> [u8; 3]

@@ -12,8 +12,8 @@ use borrow.Author.Needs.{needs}
 use Rattle.crc.proofs.last_step.Statement.{statement}
 use Rattle.crc.proofs.last_step.Tie as tie
 
-shared-slice-read-word-step : tie.Need-shared-slice-read-word-step
-shared-slice-read-word-step c = search needs
+shared-slice-read-first : tie.Need-shared-slice-read-first
+shared-slice-read-first c = search needs
 
 add-byte-or-zero : tie.Need-add-byte-or-zero
 add-byte-or-zero c = search needs
@@ -52,7 +52,7 @@ pub last-step-spec : {M : Type 1} → statement M
 last-step-spec =
     tie.close
     (tie.spec
-    shared-slice-read-word-step
+    shared-slice-read-first
     add-byte-or-zero
     byte-or-zero-requires
     add-byte-or-zero-2
