@@ -14,7 +14,7 @@ use Rattle.scan.proofs.CarryLaws.{session-refused}
 use Rattle.scan.proofs.RunLaws.{safe-sound, session-safe}
 use Rattle.scan.proofs.Simulation.{Simulates, run-to, run-back}
 use Rattle.search.specs.Search.{rulesOf}
-use Rattle.session.specs.Session.{isSound}
+use Rattle.admission.specs.Admission.{isSound}
 use Rattle.session.specs.declared.Session.{Session}
 use Rattle.feeding.specs.declared.Datagram.{Datagram}
 use Rattle.feeding.specs.declared.Reply.{Reply}

@@ -22,9 +22,9 @@ use Rattle.scan.specs.Carry.{carrying}
 use Rattle.scan.proofs.CallsLaws.{feed-unsound, feed-over, feed-past}
 use Rattle.search.specs.Search.{limitsOf, rulesOf}
 use Rattle.search.proofs.Datagrams.{lawful}
-use Rattle.session.specs.Session.{heldBytes, isSound, pieceRuling}
+use Rattle.admission.specs.Admission.{heldBytes, isSound, pieceRuling}
 use Rattle.session.specs.declared.Session.{Session}
-use Rattle.session.proofs.Soundness.{Facts}
+use Rattle.admission.proofs.Soundness.{Facts}
 use Rattle.feeding.specs.Feed.{consumer, stateOf, replyBy, replyOf, refusal, feedBy, feedOf}
 use Rattle.feeding.proofs.Refinement.{count-held}
 use Rattle.feeding.specs.CallParts.{contentsWith, replyAfter, replyAtOnce, Room}

@@ -40,14 +40,16 @@ use Rattle.search.proofs.Datagrams.{datagram-length, datagram-least, lawful, pr
 use Rattle.motion.specs.Totals.{noAxis}
 use Rattle.history.specs.History.{noHistory}
 use Rattle.history.specs.declared.History.{History}
-use Rattle.session.specs.Session.{freshOf, opening, isSound, heldBytes}
+use Rattle.session.specs.Session.{freshOf, opening}
+use Rattle.admission.specs.Admission.{isSound, heldBytes}
 use Rattle.session.specs.declared.Session.{Session}
 use Rattle.session.specs.declared.Opened.{Opened}
 use Rattle.feeding.specs.declared.Datagram.{Datagram}
 use Rattle.feeding.specs.Feed.{consumer, SessionState, sessionOf, datagramWith, noDatagram, Calls}
 use Rattle.feeding.specs.OneLength.{OneLength}
 use Rattle.feeding.specs.Promises.{streamOf, FedInTurn, answersFor, sighting, sightings, shiftOf, TotalExact, EveryCall, Contained, Exact, Demand2, Stands, Carry, Demand3}
-use Rattle.session.proofs.Opening.{fresh-sound, opened, refused-opening, zeros-unsound}
+use Rattle.session.proofs.Opening.{opened, refused-opening}
+use Rattle.admission.proofs.FreshSessions.{fresh-sound, zeros-unsound}
 use Rattle.setup.specs.Sensor.{sensorOf}
 use Rattle.feeding.proofs.BySetup.{told-datagram}
 use Rattle.feeding.proofs.Refinement.{SafeOf}

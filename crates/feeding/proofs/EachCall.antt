@@ -16,14 +16,14 @@ use Rattle.scan.specs.Carry.{carrying, feedSession}
 use Rattle.scan.proofs.CallsLaws.{feed-made, no-refusal}
 use Rattle.scan.proofs.CarryLaws.{feed-fed, reply-refused}
 use Rattle.search.specs.Search.{limitsOf, rulesOf, verdictOf}
-use Rattle.session.specs.Session.{isSound}
+use Rattle.admission.specs.Admission.{isSound}
 use Rattle.session.specs.declared.Session.{Session}
 use Rattle.feeding.specs.declared.Datagram.{Datagram}
 use Rattle.feeding.specs.declared.Answer.the-variants.{Refused}
 use Rattle.feeding.specs.declared.Reply.{Reply}
 use Rattle.feeding.specs.Feed.{consumer, SessionState, stateOf, replyBy, feedOf}
 use Rattle.feeding.specs.Promises.{CallKept}
-use Rattle.session.proofs.Soundness.{sound-facts}
+use Rattle.admission.proofs.Soundness.{sound-facts}
 use Rattle.feeding.proofs.Refinement.{state-safe, session-sound}
 use Rattle.feeding.proofs.CallParts.{fed-by}
 use Rattle.feeding.proofs.Agreement.{stateCall, on-state, call-safe}

@@ -17,11 +17,11 @@ use Rattle.wire.proofs.FieldRanges.{fields-fit}
 use Rattle.motion.specs.Totals.{groupsKept}
 use Rattle.scan.specs.Carry.{Invariant}
 use Rattle.search.specs.Search.{isDatagram}
-use Rattle.session.specs.Session.{axesRight}
+use Rattle.admission.specs.Admission.{axesRight}
 use Rattle.history.specs.History.{noHistory, historyNext}
 use Rattle.history.specs.declared.History.{History}
 use Rattle.feeding.specs.Feed.{historyAfter, historyRight, consumer}
-use Rattle.session.proofs.AxisLaws.{axes-step, none-right}
+use Rattle.admission.proofs.AxisLaws.{axes-step, none-right}
 use Rattle.search.proofs.Datagrams.{datagram-length, datagram-parts}
 use Rattle.feeding.proofs.BySetup.{after-datagram}
 use Rattle.feeding.proofs.Refinement.{history-parts, parts-history}

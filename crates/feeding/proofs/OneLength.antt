@@ -16,9 +16,9 @@ use Rattle.scan.proofs.CallsLaws.{Sound}
 use Rattle.scan.proofs.OneLength.{atOnce, feed-at-once, empty-piece, last-byte}
 use Rattle.search.specs.Search.{limitsOf, rulesOf, verdictOf}
 use Rattle.search.proofs.Datagrams.{lawful, prompt}
-use Rattle.session.specs.Session.{heldBytes, isSound, pieceRuling}
+use Rattle.admission.specs.Admission.{heldBytes, isSound, pieceRuling}
 use Rattle.session.specs.declared.Session.{Session}
-use Rattle.session.proofs.Soundness.{sound-facts}
+use Rattle.admission.proofs.Soundness.{sound-facts}
 use Rattle.feeding.specs.declared.Answer.the-variants.{Datagram as HandedOut, Waiting, Refused}
 use Rattle.feeding.specs.Feed.{consumer, noDatagram, stateOf, replyOf, feedBy, feedOf}
 use Rattle.feeding.specs.CallParts.{replyAfter, replyAtOnce}

@@ -17,11 +17,11 @@ use Rattle.setup.specs.declared.Setup.{Setup}
 use Rattle.setup.specs.declared.Ruling.the-variants.{Accepted}
 use Rattle.scan.proofs.RunLaws.{Safe}
 use Rattle.search.specs.Search.{rulesOf}
-use Rattle.session.specs.Session.{heldBytes, allZero, axesRight, isSound}
+use Rattle.admission.specs.Admission.{heldBytes, allZero, axesRight, isSound}
 use Rattle.history.specs.declared.History.{History}
 use Rattle.session.specs.declared.Session.{Session}
 use Rattle.feeding.specs.Feed.{historyRight, consumer, SessionState, stateOf, sessionOf}
-use Rattle.session.proofs.Soundness.{Facts, sound-facts, facts-sound}
+use Rattle.admission.proofs.Soundness.{Facts, sound-facts, facts-sound}
 
 -- what is asked of a session of a setup
 abbrev pub SafeOf : Setup → SessionState → Type 0

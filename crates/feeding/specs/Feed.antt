@@ -29,7 +29,8 @@ use Rattle.scan.specs.Carry as carry
 use Rattle.scan.specs.Carry.{Consumer, carrying}
 use Rattle.search.specs.Search.{verdictOf}
 use Rattle.history.specs.History.{noHistory, awaitsFirst, historyNext}
-use Rattle.session.specs.Session.{sessionWith, heldBytes, axesRight, pieceRuling}
+use Rattle.session.specs.Session.{sessionWith}
+use Rattle.admission.specs.Admission.{heldBytes, axesRight, pieceRuling}
 use Rattle.history.specs.declared.History.{History}
 use Rattle.session.specs.declared.Session.{Session}
 use Rattle.feeding.specs.declared.Datagram.{Datagram}

@@ -11,7 +11,8 @@ use Rattle.setup.specs.declared.Ruling.the-variants.{Accepted}
 use Rattle.scan.specs.Scan.{Undecided}
 use Rattle.scan.specs.Calls.{Report, takenWhole}
 use Rattle.search.specs.Search.{verdictOf}
-use Rattle.session.specs.Session.{heldBytes, isSound, opening}
+use Rattle.session.specs.Session.{opening}
+use Rattle.admission.specs.Admission.{heldBytes, isSound}
 use Rattle.session.specs.declared.Session.{Session}
 use Rattle.feeding.specs.declared.Datagram.{Datagram}
 use Rattle.feeding.specs.declared.Answer.the-variants.{Datagram as HandedOut, Waiting}

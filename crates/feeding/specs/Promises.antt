@@ -24,7 +24,8 @@ use Rattle.scan.specs.Stream.{stream, reports, NoTen, Among}
 use Rattle.scan.specs.Carry.{told}
 use Rattle.search.specs.Search.{isDatagram, limitsOf, verdictOf}
 use Rattle.history.specs.History.{noHistory}
-use Rattle.session.specs.Session.{heldBytes, isSound, opening}
+use Rattle.session.specs.Session.{opening}
+use Rattle.admission.specs.Admission.{heldBytes, isSound}
 use Rattle.session.specs.declared.Session.{Session}
 use Rattle.feeding.specs.declared.Datagram.{Datagram}
 use Rattle.feeding.specs.declared.Answer.the-variants.{Refused}

@@ -14,7 +14,7 @@ use Rattle.setup.specs.declared.Ruling.the-variants.{Accepted, Refused}
 use Rattle.setup.proofs.Rules.{first-accepted, first-refused}
 use Rattle.scan.specs.Scan.{Scanned, scan}
 use Rattle.search.specs.Search.{verdictOf}
-use Rattle.session.specs.Session.{pieceRules, pieceRuling}
+use Rattle.admission.specs.Admission.{pieceRules, pieceRuling}
 use Rattle.session.specs.declared.Session.{Session}
 use Rattle.feeding.specs.Feed.{stateOf, sessionOf}
 use Rattle.lines.specs.declared.Received.the-variants.{Lines}

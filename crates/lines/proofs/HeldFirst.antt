@@ -17,12 +17,13 @@ use Rattle.scan.specs.Scan.{Scanned, First, ends, finds, first, passing, handin
 use Rattle.scan.specs.Carry.{steps, carriedAfter}
 use Rattle.search.specs.Search.{limitsOf, verdictOf, placeOf}
 use Rattle.search.proofs.Places.{IsComplete, complete-length, found-complete, found-undecided}
-use Rattle.session.specs.Session.{sessionWith, heldBytes}
+use Rattle.session.specs.Session.{sessionWith}
+use Rattle.admission.specs.Admission.{heldBytes}
 use Rattle.history.specs.History.{awaitsFirst, historyNext}
 use Rattle.history.specs.declared.History.{History}
 use Rattle.session.specs.declared.Session.{Session}
-use Rattle.session.proofs.Soundness.{Facts, sound-facts}
-use Rattle.session.proofs.PieceRulings.{Admitted, admitted}
+use Rattle.admission.proofs.Soundness.{Facts, sound-facts}
+use Rattle.admission.proofs.PieceRulings.{Admitted, admitted}
 use Rattle.feeding.specs.Feed.{historyAfter, datagramWith, consumer, stateOf, feedOf}
 use Rattle.feeding.specs.CallParts.{replyAfter, replyAtOnce}
 use Rattle.feeding.specs.declared.Answer.the-variants.{Datagram as HandedOut, Waiting}

@@ -23,8 +23,8 @@ use Rattle.search.proofs.Datagrams.{lawful}
 use Rattle.integers.proofs.Buffers.{to-end, sets-append}
 use Rattle.search.proofs.Places.{IsComplete, IsUndecided, complete-length}
 use Rattle.session.specs.declared.Session.{Session}
-use Rattle.session.proofs.Soundness.{sound-facts}
-use Rattle.session.proofs.PieceRulings.{admitted}
+use Rattle.admission.proofs.Soundness.{sound-facts}
+use Rattle.admission.proofs.PieceRulings.{admitted}
 use Rattle.feeding.specs.Feed.{consumer, sessionOf}
 use Rattle.feeding.proofs.BySetup.{after-datagram}
 use Rattle.lines.specs.declared.Received.the-variants.{Lines}

@@ -32,9 +32,9 @@ use Rattle.integers.proofs.Booleans.{and-true}
 use Rattle.search.specs.Search.{isDatagram}
 use Rattle.search.proofs.Datagrams.{datagram-parts}
 use Rattle.history.specs.History.{awaitsFirst, historyNext}
-use Rattle.session.specs.Session.{axesRight}
+use Rattle.admission.specs.Admission.{axesRight}
 use Rattle.history.specs.declared.History.{History}
-use Rattle.session.proofs.AxisLaws.{axes-at, axes-step}
+use Rattle.admission.proofs.AxisLaws.{axes-at, axes-step}
 use Rattle.feeding.specs.Feed.{historyAfter, datagramWith, consumer}
 use Rattle.feeding.proofs.BySetup.{after-datagram, told-datagram}
 use Rattle.lines.specs.Lines.{lineOf, linesAfter}

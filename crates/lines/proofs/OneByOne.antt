@@ -15,9 +15,9 @@ use Rattle.scan.proofs.RunLaws.{Gives, Result, ready, run-result, run-exists}
 use Rattle.scan.proofs.StreamLaws.{outcome-taken, stream-whole}
 use Rattle.search.specs.Search.{limitsOf, rulesOf, verdictOf}
 use Rattle.search.proofs.Datagrams.{lawful, prompt}
-use Rattle.session.specs.Session.{heldBytes, isSound}
+use Rattle.admission.specs.Admission.{heldBytes, isSound}
 use Rattle.session.specs.declared.Session.{Session}
-use Rattle.session.proofs.Soundness.{sound-facts}
+use Rattle.admission.proofs.Soundness.{sound-facts}
 use Rattle.feeding.specs.declared.Datagram.{Datagram}
 use Rattle.feeding.specs.Feed.{consumer, SessionState, stateOf, sessionOf, Calls}
 use Rattle.feeding.proofs.Refinement.{SafeOf, state-safe, session-sound, session-state}

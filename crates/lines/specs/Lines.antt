@@ -14,7 +14,7 @@ use Rattle.scan.specs.Scan.{Scanned, scan}
 use Rattle.scan.specs.Stream.{joined}
 use Rattle.scan.specs.Carry.{told, carriedAfter}
 use Rattle.search.specs.Search.{verdictOf}
-use Rattle.session.specs.Session.{heldBytes, pieceRules}
+use Rattle.admission.specs.Admission.{heldBytes, pieceRules}
 use Rattle.session.specs.declared.Session.{Session}
 use Rattle.feeding.specs.Feed.{consumer, SessionState, stateOf, sessionOf}
 use Rattle.feeding.specs.declared.Datagram.{Datagram}

@@ -16,7 +16,7 @@ use Rattle.scan.specs.Stream.{joined}
 use Rattle.scan.specs.Carry.{steps, tells, told, carriedAfter}
 use Rattle.search.specs.Search.{limitsOf, rulesOf, verdictOf}
 use Rattle.history.specs.History.{greatestCount}
-use Rattle.session.specs.Session.{axesRight, pieceRuling}
+use Rattle.admission.specs.Admission.{axesRight, pieceRuling}
 use Rattle.history.specs.declared.History.{History}
 use Rattle.session.specs.declared.Session.{Session}
 use Rattle.feeding.specs.Feed.{consumer, SessionState, stateOf, sessionOf}

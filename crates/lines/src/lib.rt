@@ -15,13 +15,13 @@ ghost use Rattle.search.specs.Search.{isDatagram, limitsOf, verdictOf, placeOf}
 ghost use Rattle.history.specs.History.{greatestCount};
 ghost use Rattle.lines.specs.Lines.{lineBy, foundIn, refusing, batchOf, batchBuffer};
 ghost use Rattle.lines.specs.PieceParts.{lookedUp, nextLine, startOf, nextOf, stopped, scanAt, Ready, Finished, Answered, Permitted};
+use admission::Admission;
 use feeding::Answer;
 use feeding::Datagram;
 use history::History;
 use motion::Gap;
 use motion::Totals;
 use search::Place;
-use session::Admission;
 use session::Session;
 use setup::Sensor;
 use setup::Setup;
@@ -310,7 +310,7 @@ fn looked_up(setup: Setup, sensor: Sensor) -> LookedUp
 pub fn receive_lines(session: Session, piece: &[u8], buffer: &mut [u8]) -> Batch
     ensures { λ r. ⌜ r ≡ batchOf session (now (piece .entry)) (length (now (buffer .entry))) ⌝ ∗ ⌜ now (buffer .exit) ≡ batchBuffer session (now (piece .entry)) (now (buffer .entry)) ⌝ }
 {
-    let admission = session::admit(session, piece.len());
+    let admission = admission::admit(session, piece.len());
     match admission {
         Admission::Refused(number) => refuse(session, number),
         Admission::Admitted(sensor) => {

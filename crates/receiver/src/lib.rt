@@ -11,9 +11,11 @@ ghost use Rattle.setup.specs.declared.Ruling.the-variants.{Accepted};
 ghost use Rattle.motion.specs.Totals.{noAxes, totalsOf};
 ghost use Rattle.scan.specs.Scan.{first, later, ends, finds};
 ghost use Rattle.search.specs.Search.{rulesOf, verdictOf};
-ghost use Rattle.session.specs.Session.{sessionWith, heldBytes, pieceRuling};
+ghost use Rattle.session.specs.Session.{sessionWith};
+ghost use Rattle.admission.specs.Admission.{heldBytes, pieceRuling};
 ghost use Rattle.feeding.specs.Feed.{datagramWith, noFields, noValues, noDoubles, noDatagram, refusal, feedOf};
 ghost use Rattle.feeding.specs.CallParts.{contentsWith, replyAfter, replyAtOnce, Room};
+use admission::Admission;
 use doubles::GroupValues;
 use doubles::TotalDoubles;
 use doubles::Values;
@@ -28,7 +30,6 @@ use motion::GroupTotals;
 use motion::Total;
 use motion::Totals;
 use search::Place;
-use session::Admission;
 use session::Session;
 use setup::Sensor;
 use wire::Fields;
@@ -322,7 +323,7 @@ fn scan_piece(session: Session, sensor: Sensor, piece: &[u8]) -> Reply
 pub fn feed(session: Session, piece: &[u8]) -> Reply
     ensures { λ r. ⌜ r ≡ feedOf session (now (piece .entry)) ⌝ }
 {
-    let admission = session::admit(session, piece.len());
+    let admission = admission::admit(session, piece.len());
     match admission {
         Admission::Refused(number) => refuse(session, number),
         Admission::Admitted(sensor) => scan_piece(session, sensor, piece),

@@ -1,5 +1,2 @@
--- Laws of the rules: the axes of a session, what soundness says, what opening gives.
-pub mod AxisLaws
-pub mod Soundness
-pub mod PieceRulings
+-- Laws of opening: what it gives, and its numbers.
 pub mod Opening

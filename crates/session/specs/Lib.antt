@@ -1,2 +1,2 @@
--- A session, opening one, and what feeding turns down.
+-- A session, and opening one.
 pub mod Session

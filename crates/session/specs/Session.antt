@@ -1,30 +1,17 @@
--- 01, The scan: a fresh session; What is turned down: 4 to 9 of opening, and 10 of feeding, clause by clause.
-use Prim.Native.Nat.{ℕ, _+_, _*_, _^_}
-use mathlib.Core.Bool.{Bool, true, false, not, _&&_, _||_}
+-- A session of its parts, a fresh one, and what opening gives (01, The scan; What is turned down, 4 to 9).
+use Prim.Native.Nat.{ℕ}
+use mathlib.Core.Bool.{Bool, true, false}
 use mathlib.Core.List.{List, [], _∷_}
-use lib.Dec.{eqb, leb, ltb}
-use lib.ListN.{length, take, drop, getD}
+use lib.ListN.{length}
 use Rattle.integers.specs.Buffers.{padded}
-use Rattle.integers.specs.Ranges.{isZero, within, inReading}
-use Rattle.setup.specs.Setup.{Rule, rule, firstOf, rulingOn, zeroSetup, lengthOf}
-use Rattle.setup.specs.Sensor.{sensorOf}
+use Rattle.setup.specs.Setup.{rulingOn, zeroSetup}
 use Rattle.setup.specs.declared.Setup.{Setup}
-use Rattle.setup.specs.declared.Sensor.{Sensor}
 use Rattle.setup.specs.declared.Ruling.{Ruling}
 use Rattle.setup.specs.declared.Ruling.the-variants.{Accepted, Refused}
-use Rattle.motion.specs.Totals.{groupsKept}
-use Rattle.motion.specs.declared.Axis.{Axis}
-use Rattle.motion.specs.declared.GroupAxes.{GroupAxes}
-use Rattle.motion.specs.declared.Axes.{Axes}
-use Rattle.scan.specs.Rules as rules
-use Rattle.search.specs.Search.{limitsOf, rulesOf}
 use Rattle.history.specs.History.{noHistory}
 use Rattle.history.specs.declared.History.{History}
 use Rattle.session.specs.declared.Session.{Session}
 use Rattle.session.specs.declared.Opened.{Opened}
-use Rattle.session.specs.declared.Limits.{Limits}
-use Rattle.session.specs.declared.Admission.{Admission}
-use Rattle.session.specs.declared.Admission as admission
 
 -- ---- a fresh session, and opening
 
@@ -36,6 +23,11 @@ sessionWith u h passed fed held = record { setup = u; held = padded 64 held; cou
 unfoldable pub freshOf : Setup → Session
 freshOf u = sessionWith u noHistory 0 0 []
 
+-- whether a setup is accepted
+abbrev pub isAccepted : Ruling → Bool
+isAccepted Accepted = true
+isAccepted (Refused n) = false
+
 -- opening gives a fresh session, or refuses the setup by 4 to 9 and gives a session of zeros
 abbrev pub openedBy : Ruling → Setup → Session
 openedBy Accepted u = freshOf u
@@ -43,97 +35,3 @@ openedBy (Refused n) u = freshOf zeroSetup
 
 unfoldable pub opening : Setup → Opened
 opening u = record { answer = rulingOn u; session = openedBy (rulingOn u) u }
-
--- ---- what feeding asks of a session: refusal 10, in 01's order
-
--- limits as the code has them
-abbrev pub asStruct : rules.Limits → Limits
-asStruct l = record { piece = l .piece; «too_long» = l .tooLong; session = l .session }
-
--- its setup would not be refused
-abbrev pub isAccepted : Ruling → Bool
-isAccepted Accepted = true
-isAccepted (Refused n) = false
-
-abbrev pub setupRight : Session → Bool
-setupRight s = isAccepted (rulingOn (s .setup))
-
--- its held bytes keep the scan's rule; as many as it counts are there
-abbrev pub heldBytes : Session → List ℕ
-heldBytes s = take (s .count) (s .held)
-
-abbrev pub heldRight : Session → Bool
-heldRight s = leb (s .count) (length (s .held)) && rulesOf (s .setup) .mayHold (heldBytes s)
-
--- they are zero beyond their count
-unfoldable pub allZero : List ℕ → Bool
-allZero [] = true
-allZero (b ∷ s) = eqb b 0 && allZero s
-
-abbrev pub restRight : Session → Bool
-restRight s = allZero (drop (s .count) (s .held))
-
--- L × datagrams + passed over + held is bytes fed, which don't exceed the session's limit
-abbrev pub sumRight : Session → Bool
-sumRight s = eqb (lengthOf (s .setup) * s .history .datagrams .0 + s .passed + s .count) (s .fed)
-
-abbrev pub fedRight : Session → Bool
-fedRight s = leb (s .fed) (limitsOf (s .setup) .session)
-
--- of an axis, after n datagrams: its total is at most n × 2 ^ 23 in size
-abbrev pub totalRight : ℕ → Axis → Bool
-totalRight n a = within (n * 2 ^ 23) (a .total)
-
--- its kept reading is in 24 bits
-abbrev pub lastRight : Axis → Bool
-lastRight a = inReading (a .last)
-
--- it has begun and keeps a total, or it is all zero
-abbrev pub isIdle : Axis → Bool
-isIdle a = not (a .begun) && (isZero (a .last) && isZero (a .total))
-
-abbrev pub idleRight : Bool → Axis → Bool
-idleRight kept a = (kept && a .begun) || isIdle a
-
-unfoldable pub axisRight : Bool → ℕ → Axis → Bool
-axisRight kept n a = totalRight n a && (lastRight a && idleRight kept a)
-
--- of the three axes of a group, and of the nine
-unfoldable pub groupRight : Bool → ℕ → GroupAxes → Bool
-groupRight kept n g = axisRight kept n (g .x) && (axisRight kept n (g .y) && axisRight kept n (g .z))
-
-unfoldable pub axesRightBy : List Bool → ℕ → Axes → Bool
-axesRightBy kept n a =
-    groupRight (getD kept 0 false) n (a .gyro) &&
-    (groupRight (getD kept 1 false) n (a .accelerometer) && groupRight (getD kept 2 false) n (a .inclinometer))
-
-abbrev pub axesRight : Setup → ℕ → Axes → Bool
-axesRight u n a = axesRightBy (groupsKept u) n a
-
--- feeding doesn't turn the session down by 10
-unfoldable pub isSound : Session → Bool
-isSound s =
-    setupRight s &&
-    (heldRight s &&
-    (restRight s &&
-    (sumRight s &&
-    (fedRight s &&
-    axesRight (s .setup) (s .history .datagrams .0) (s .history .axes)))))
-
--- ---- what feeding turns down, of a piece of n bytes
-
-abbrev pub pieceRules : Session → ℕ → List Rule
-pieceRules s n =
-    let l : rules.Limits = limitsOf (s .setup) in
-    rule 10 (not (isSound s)) ∷ rule (l .tooLong) (ltb (l .piece) n) ∷ rule 12 (ltb (l .session) (s .fed + n)) ∷ []
-
-unfoldable pub pieceRuling : Session → ℕ → Ruling
-pieceRuling s n = firstOf (pieceRules s n)
-
--- the number that refuses it, else the sensor of the session's setup
-abbrev pub admissionBy : Ruling → Sensor → Admission
-admissionBy Accepted sensor = admission.the-variants.Admitted sensor
-admissionBy (Refused number) sensor = admission.the-variants.Refused number
-
-unfoldable pub admissionOf : Session → ℕ → Admission
-admissionOf s n = admissionBy (pieceRuling s n) (sensorOf (s .setup))

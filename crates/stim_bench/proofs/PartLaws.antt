@@ -7,7 +7,7 @@ use native.Mathlib.Omega.{arith}
 use lib.ListN.{length, drop, length-append}
 use Rattle.session.specs.declared.Session.{Session}
 use Rattle.lines.specs.Lines.{enough, linesIn, bufferBy, batchOf, batchBuffer}
-use Rattle.session.proofs.PieceRulings.{admits}
+use Rattle.admission.proofs.PieceRulings.{admits}
 use Rattle.lines.specs.PieceParts.{Permitted}
 use Rattle.lines.specs.declared.Received.{Received}
 use Rattle.lines.specs.declared.Received.the-variants.{Lines}

@@ -4,7 +4,7 @@ use mathlib.Core.Path.{_≡_}
 use mathlib.Core.Bool.{Bool, true, false, cond}
 use mathlib.Core.List.{List, [], _∷_}
 use lib.Dec.{eqb}
-use Rattle.session.specs.Session.{isSound}
+use Rattle.admission.specs.Admission.{isSound}
 use Rattle.session.specs.declared.Session.{Session}
 use Rattle.stim_bench.specs.declared.Got.{Got}
 use Rattle.stim_bench.specs.declared.Got.the-variants.{Bytes, End, Failed}

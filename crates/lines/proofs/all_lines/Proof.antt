@@ -1,7 +1,7 @@
 -- `lines::all_lines` meets its contract. Assumes nothing.
 use native.Mathlib.Omega.{arith}
 use lib.ListN.{length}
-use Rattle.session.proofs.PieceRulings.{admitted}
+use Rattle.admission.proofs.PieceRulings.{admitted}
 use Rattle.lines.proofs.LoopInvariant.{ready-start}
 use Rattle.lines.proofs.Batches.{answered-none}
 use borrow.Author.Needs.{needs}

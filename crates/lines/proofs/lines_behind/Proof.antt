@@ -9,8 +9,8 @@ use lib.ListN.{length}
 use lib.Seq.{sets, length-sets}
 use Rattle.text_line.specs.ShownLine.{outside, longestLine}
 use Rattle.search.specs.Search.{limitsOf}
-use Rattle.session.proofs.Soundness.{sound-facts}
-use Rattle.session.proofs.PieceRulings.{Admitted, admitted}
+use Rattle.admission.proofs.Soundness.{sound-facts}
+use Rattle.admission.proofs.PieceRulings.{Admitted, admitted}
 use Rattle.feeding.specs.declared.Reply.{Reply}
 use Rattle.feeding.specs.Feed.{stateOf}
 use Rattle.feeding.proofs.EachCall.{not-refused}

@@ -3,8 +3,8 @@ use mathlib.Core.Path.{_≡_, sym, _∙_}
 use native.Mathlib.Omega.{arith}
 use lib.ListN.{length}
 use Rattle.setup.specs.Sensor.{sensorOf}
-use Rattle.session.proofs.Soundness.{sound-facts}
-use Rattle.session.proofs.PieceRulings.{Admitted, admits, admission-sensor, admission-number}
+use Rattle.admission.proofs.Soundness.{sound-facts}
+use Rattle.admission.proofs.PieceRulings.{Admitted, admits, admission-sensor, admission-number}
 use Rattle.lines.specs.PieceParts.{Permitted}
 use Rattle.lines.proofs.Batches.{refused, fourteen, refused-keeps, answered-all}
 use borrow.Author.Needs.{needs}

@@ -1,7 +1,7 @@
 -- `receiver::feed` meets its contract: refused by 10, 11 or 12, or the scan of the bytes held and the piece. Assumes nothing.
 use mathlib.Core.Path.{sym, _∙_}
 use lib.ListN.{length}
-use Rattle.session.proofs.PieceRulings.{admits, admission-sensor, admission-number}
+use Rattle.admission.proofs.PieceRulings.{admits, admission-sensor, admission-number}
 use Rattle.feeding.proofs.CallParts.{fed-refused}
 use borrow.Author.Needs.{needs}
 use Rattle.receiver.proofs.feed.Statement.{statement}

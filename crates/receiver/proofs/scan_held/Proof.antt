@@ -10,7 +10,7 @@ use Rattle.setup.proofs.Refusals.{accepted-length}
 use Rattle.scan.specs.Scan.{Verdict, first, later}
 use Rattle.search.specs.Search.{verdictOf, verdictIn, placeOf}
 use Rattle.search.proofs.Places.{IsComplete, IsUndecided, complete-length, found-complete, found-undecided}
-use Rattle.session.specs.Session.{heldBytes}
+use Rattle.admission.specs.Admission.{heldBytes}
 use Rattle.feeding.specs.CallParts.{replyAtOnce}
 use Rattle.receiver.proofs.Joining.{complete-joined, complete-taken, undecided-joined}
 use Rattle.feeding.proofs.BySetup.{sensor-verdict}

@@ -9,8 +9,8 @@ use Rattle.setup.proofs.Sensors.{sensor-length}
 use Rattle.scan.specs.Scan.{first}
 use Rattle.scan.proofs.ScanLaws.{later-zero}
 use Rattle.search.specs.Search.{verdictOf, sizeIn}
-use Rattle.session.proofs.Soundness.{Facts, sound-facts}
-use Rattle.session.proofs.PieceRulings.{Admitted, admitted}
+use Rattle.admission.proofs.Soundness.{Facts, sound-facts}
+use Rattle.admission.proofs.PieceRulings.{Admitted, admitted}
 use Rattle.feeding.specs.CallParts.{replyAtOnce}
 use Rattle.feeding.proofs.CallParts.{count-less, room-of}
 use Rattle.feeding.proofs.OneLength.{fed-at-once}

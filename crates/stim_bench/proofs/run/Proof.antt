@@ -13,7 +13,8 @@ use Rattle.setup_line.specs.declared.LineRead.{LineRead}
 use Rattle.setup_line.proofs.LineAnswers.{accepted-line}
 use Rattle.session.specs.Session.{freshOf, opening}
 use Rattle.session.specs.declared.Opened.{Opened}
-use Rattle.session.proofs.Opening.{opened, fresh-sound}
+use Rattle.session.proofs.Opening.{opened}
+use Rattle.admission.proofs.FreshSessions.{fresh-sound}
 use Rattle.stim_bench.specs.Bench.{Feedable}
 use Rattle.stim_bench.proofs.run.Statement.{statement}
 use Rattle.stim_bench.proofs.run.Tie as tie

@@ -15,8 +15,9 @@ use Rattle.setup.specs.declared.Ruling.{Ruling}
 use Rattle.setup.specs.declared.Ruling.the-variants.{Accepted, Refused}
 use Rattle.scan.specs.OneLength.{heldRule}
 use Rattle.search.specs.Search.{limitsOf, rulesOf}
 use Rattle.session.specs.declared.Session.{Session}
-use Rattle.session.specs.Session.{isAccepted, setupRight, heldBytes, heldRight, allZero, restRight, sumRight, fedRight, axesRight, isSound}
+use Rattle.session.specs.Session.{isAccepted}
+use Rattle.admission.specs.Admission.{setupRight, heldBytes, heldRight, allZero, restRight, sumRight, fedRight, axesRight, isSound}
 
 -- the clauses as facts
 pub record Facts (s : Session) : Type 0 where

@@ -1,17 +1,17 @@
--- `session::admit_by` meets its contract. Assumes nothing.
+-- `admission::admit_by` meets its contract. Assumes nothing.
 use Prim.Native.Nat.{_+_, _≤_}
 use mathlib.Core.Path.{_≡_, sym, ap, _∙_}
 use mathlib.Core.Bool.{true}
 use native.Mathlib.Omega.{arith}
 use borrow.Author.Tests.{not-true, not-false, lt-ltb, le-ltb}
 use Rattle.search.specs.Search.{limitsOf}
-use Rattle.session.specs.Session.{asStruct, isSound, pieceRuling, admissionOf}
-use Rattle.session.specs.declared.Limits.{Limits}
-use Rattle.session.specs.declared.Admission as admission
-use Rattle.session.proofs.Soundness.{sound-facts}
+use Rattle.admission.specs.Admission.{asStruct, isSound, pieceRuling, admissionOf}
+use Rattle.admission.specs.declared.Limits.{Limits}
+use Rattle.admission.specs.declared.Admission as admission
+use Rattle.admission.proofs.Soundness.{sound-facts}
 use borrow.Author.Needs.{needs}
-use Rattle.session.proofs.admit_by.Statement.{statement}
-use Rattle.session.proofs.admit_by.Tie as tie
+use Rattle.admission.proofs.admit_by.Statement.{statement}
+use Rattle.admission.proofs.admit_by.Tie as tie
 
 -- past the first test the session is sound
 sound : (c : tie.Else1) → isSound (c .before .before .args .session) ≡ true

@@ -1,11 +1,11 @@
--- `session::admit` meets its contract. Assumes nothing.
+-- `admission::admit` meets its contract. Assumes nothing.
 use mathlib.Core.Path.{sym, _∙_}
 use Rattle.setup.proofs.Sensors.{described-accepted, described-refused}
-use Rattle.session.specs.Session.{pieceRuling, admissionOf}
-use Rattle.session.proofs.Soundness.{refused-unsound}
+use Rattle.admission.specs.Admission.{pieceRuling, admissionOf}
+use Rattle.admission.proofs.Soundness.{refused-unsound}
 use borrow.Author.Needs.{needs}
-use Rattle.session.proofs.admit.Statement.{statement}
-use Rattle.session.proofs.admit.Tie as tie
+use Rattle.admission.proofs.admit.Statement.{statement}
+use Rattle.admission.proofs.admit.Tie as tie
 
 describe-requires : tie.Need-describe-requires
 describe-requires c κs = search needs

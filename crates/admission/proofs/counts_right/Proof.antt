@@ -1,4 +1,4 @@
--- `session::counts_right` meets its contract. Assumes nothing.
+-- `admission::counts_right` meets its contract. Assumes nothing.
 use Prim.Native.Nat.{ℕ, _+_, _*_, _^_, _<_}
 use mathlib.Core.Path.{_≡_, refl, sym, ap}
 use mathlib.Core.Bool.{Bool, true, false, _&&_}
@@ -8,9 +8,9 @@ use lib.Dec.{eqb, leb}
 use borrow.Author.Needs.{needs}
 use borrow.Author.Tests.{lt-leb, eqb-true}
 use Rattle.search.specs.Search.{limitsOf}
-use Rattle.session.specs.declared.Limits.{Limits}
-use Rattle.session.proofs.counts_right.Statement.{statement}
-use Rattle.session.proofs.counts_right.Tie as tie
+use Rattle.admission.specs.declared.Limits.{Limits}
+use Rattle.admission.proofs.counts_right.Statement.{statement}
+use Rattle.admission.proofs.counts_right.Tie as tie
 
 -- a sum above the limit is not the bytes fed, or these are above it too
 over : (x f limit : ℕ) → limit < x → (eqb x f && leb f limit) ≡ false

@@ -1,4 +1,4 @@
--- `session::zeros_behind` meets its contract. Assumes nothing.
+-- `admission::zeros_behind` meets its contract. Assumes nothing.
 use Prim.Native.Nat.{ℕ, _+_, _-_, _≤_, _<_}
 use mathlib.Core.Path.{_≡_, refl, sym, ap, _∙_}
 use mathlib.Core.List.{List}
@@ -10,9 +10,9 @@ use lib.ListN.{length, drop, getD, drop-of-length-le}
 use lib.Seq.{drop-cons}
 use borrow.Author.Needs.{needs}
 use borrow.Author.Tests.{eq-eqb, ne-eqb}
-use Rattle.session.specs.Session.{allZero}
-use Rattle.session.proofs.zeros_behind.Statement.{statement}
-use Rattle.session.proofs.zeros_behind.Tie as tie
+use Rattle.admission.specs.Admission.{allZero}
+use Rattle.admission.proofs.zeros_behind.Statement.{statement}
+use Rattle.admission.proofs.zeros_behind.Tie as tie
 
 -- one byte more
 next : (b : List ℕ) (i : ℕ) → i < length b → allZero (drop i b) ≡ (eqb (getD b i 0) 0 && allZero (drop (i + 1) b))

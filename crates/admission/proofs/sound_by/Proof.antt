@@ -1,4 +1,4 @@
--- `session::sound_by` meets its contract. Assumes nothing.
+-- `admission::sound_by` meets its contract. Assumes nothing.
 use mathlib.Core.Path.{_≡_, sym, ap, _∙_}
 use mathlib.Core.Bool.{Bool, true, _&&_}
 use Prim.Native.Nat.{ℕ, _≤_}
@@ -17,12 +17,12 @@ use Rattle.motion.specs.Totals.{groupsKept, keptBy}
 use Rattle.motion.proofs.AcceptedSetup.{accepted-kept}
 use Rattle.scan.specs.OneLength.{heldRule}
 use Rattle.search.specs.Search.{limitsOf, rulesOf}
 use Rattle.session.specs.declared.Session.{Session}
-use Rattle.session.specs.Session.{heldBytes, heldRight, restRight, sumRight, fedRight}
-use Rattle.session.proofs.Soundness.{in-parts, counts-few}
+use Rattle.admission.specs.Admission.{heldBytes, heldRight, restRight, sumRight, fedRight}
+use Rattle.admission.proofs.Soundness.{in-parts, counts-few}
 use borrow.Author.Needs.{needs}
-use Rattle.session.proofs.sound_by.Statement.{statement}
-use Rattle.session.proofs.sound_by.Tie as tie
+use Rattle.admission.proofs.sound_by.Statement.{statement}
+use Rattle.admission.proofs.sound_by.Tie as tie
 
 abbrev from-length : tie.After-length-of → tie.Start
 from-length c = c .before .before .before .before .before .before .before

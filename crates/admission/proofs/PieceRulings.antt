@@ -11,9 +11,9 @@ use Rattle.setup.specs.declared.Ruling.{Ruling}
 use Rattle.setup.specs.declared.Ruling.the-variants.{Accepted, Refused}
 use Rattle.setup.proofs.Rules.{first-within, none-applies}
 use Rattle.search.specs.Search.{limitsOf}
 use Rattle.session.specs.declared.Session.{Session}
-use Rattle.session.specs.declared.Admission as admission
-use Rattle.session.specs.Session.{isSound, pieceRules, pieceRuling, admissionBy, admissionOf}
+use Rattle.admission.specs.declared.Admission as admission
+use Rattle.admission.specs.Admission.{isSound, pieceRules, pieceRuling, admissionBy, admissionOf}
 
 -- nothing refuses a piece of n bytes
 pub record Admitted (s : Session) (n : ℕ) : Type 0 where

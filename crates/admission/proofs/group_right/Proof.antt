@@ -1,8 +1,8 @@
--- `session::group_right` meets its contract. Assumes nothing.
-use Rattle.session.specs.Session.{groupRight}
+-- `admission::group_right` meets its contract. Assumes nothing.
+use Rattle.admission.specs.Admission.{groupRight}
 use borrow.Author.Needs.{needs}
-use Rattle.session.proofs.group_right.Statement.{statement}
-use Rattle.session.proofs.group_right.Tie as tie
+use Rattle.admission.proofs.group_right.Statement.{statement}
+use Rattle.admission.proofs.group_right.Tie as tie
 
 axis-right-requires : tie.Need-axis-right-requires
 axis-right-requires c κs = search needs

@@ -19,7 +19,7 @@ use Rattle.motion.specs.declared.Axes.{Axes}
 use Rattle.motion.specs.Totals.{Sighting, noAxis, noGroup, noAxes, keptStep, seen, stepped, axisIn, axisAt}
 use Rattle.motion.proofs.NineAxes.{step-at}
 use Rattle.motion.proofs.Bounds.{step-bound, last-range, not-begun, step-not-kept}
-use Rattle.session.specs.Session.{totalRight, lastRight, isIdle, idleRight, axisRight, groupRight, axesRightBy}
+use Rattle.admission.specs.Admission.{totalRight, lastRight, isIdle, idleRight, axisRight, groupRight, axesRightBy}
 
 -- ---- one axis
 

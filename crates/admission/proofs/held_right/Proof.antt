@@ -1,13 +1,13 @@
--- `session::held_right` meets its contract. Assumes nothing.
+-- `admission::held_right` meets its contract. Assumes nothing.
 use native.Mathlib.Omega.{arith}
 use borrow.Author.Tests.{le-leb, lt-leb}
 use borrow.Author.Needs.{needs}
 use Prim.Native.Nat.{_≤_}
 use mathlib.Core.Path.{_≡_}
 use lib.ListN.{length}
-use Rattle.session.proofs.Soundness.{held-rule}
-use Rattle.session.proofs.held_right.Statement.{statement}
-use Rattle.session.proofs.held_right.Tie as tie
+use Rattle.admission.proofs.Soundness.{held-rule}
+use Rattle.admission.proofs.held_right.Statement.{statement}
+use Rattle.admission.proofs.held_right.Tie as tie
 
 held-long : (c : tie.Start) → length (c .args .t3) ≡ 64
 held-long c = search needs

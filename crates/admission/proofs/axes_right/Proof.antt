@@ -1,8 +1,8 @@
--- `session::axes_right` meets its contract. Assumes nothing.
-use Rattle.session.specs.Session.{axesRightBy}
+-- `admission::axes_right` meets its contract. Assumes nothing.
+use Rattle.admission.specs.Admission.{axesRightBy}
 use borrow.Author.Needs.{needs}
-use Rattle.session.proofs.axes_right.Statement.{statement}
-use Rattle.session.proofs.axes_right.Tie as tie
+use Rattle.admission.proofs.axes_right.Statement.{statement}
+use Rattle.admission.proofs.axes_right.Tie as tie
 
 array-read-group-right : tie.Need-array-read-group-right
 array-read-group-right c = search needs

@@ -1,0 +1,2 @@
+-- What feeding turns down, 10 to 12.
+pub mod Admission
