@@ -17,8 +17,8 @@ ghost use Rattle.lines.specs.Lines.{lineBy, foundIn, refusing, batchOf, 
 ghost use Rattle.lines.specs.PieceParts.{lookedUp, nextLine, startOf, nextOf, stopped, scanAt, Ready, Finished, Answered, Permitted};
 use feeding::Answer;
 use feeding::Datagram;
+use gaps::Gap;
 use history::History;
-use motion::Gap;
 use motion::Totals;
 use search::Place;
 use session::Admission;
