@@ -6,9 +6,9 @@
 //     decodes I READINGS STATUSES COUNTER LATENCY HEX
 //     fit STATUS XYZ COUNT   which axes a status leaves fit (1), and how many channels it flags
 //     gap RATE FIRST PREVIOUS COUNTER MISSED     the datagrams missed, or `?`
+use gaps::Gap;
 use libc::STDIN_FILENO;
 use libc::STDOUT_FILENO;
-use motion::Gap;
 use setup::Described;
 use setup::Listing;
 use setup::Rate;
@@ -226,7 +226,7 @@ fn fit_case(given: &[u8]) -> bool {
 fn same_gap(given: &[u8], rate: Rate) -> bool {
     let previous = (value_at(given, 3) % 256) as u8;
     let counter = (value_at(given, 4) % 256) as u8;
-    let gap = motion::gap_between(rate, value_at(given, 2) == 1, previous, counter);
+    let gap = gaps::gap_between(rate, value_at(given, 2) == 1, previous, counter);
     let at = word_start(given, 5);
     if given.len() <= at {
         return false;

@@ -6,8 +6,8 @@ use lib.IntN.{pos, negsuc}
 use lib.Ieee.{binary64, round, ofBits}
 use Rattle.integers.specs.Bytes.{signedBytes}
 use Rattle.integers.proofs.BenchCases.{greatest, least, minus-one, past-the-top, half-way}
+use Rattle.gaps.specs.Gaps.{missedIn, elapsed, missedAfter, gapAt}
 use Rattle.motion.specs.Status.{unfit, fitAxes}
-use Rattle.motion.specs.Gaps.{missedIn, elapsed, missedAfter, gapAt}
 use Rattle.motion.specs.Totals.{difference}
 use Rattle.doubles.specs.Doubles.{quotient}
 

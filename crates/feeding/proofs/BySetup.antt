@@ -12,9 +12,10 @@ use Rattle.setup.specs.declared.Ruling.the-variants.{Accepted}
 use Rattle.setup.proofs.Refusals.{each}
 use Rattle.wire.specs.Fields.{Contents, fieldsOf}
 use Rattle.wire.proofs.FieldBytes.{sensor-fields}
-use Rattle.motion.specs.Gaps.{gapAt}
+use Rattle.gaps.specs.Gaps.{gapAt}
+use Rattle.gaps.proofs.AcceptedSetup.{accepted-gap}
 use Rattle.motion.specs.Totals.{keeps, groupsKept}
-use Rattle.motion.proofs.AcceptedSetup.{accepted-gap, accepted-kept}
+use Rattle.motion.proofs.AcceptedSetup.{accepted-kept}
 use Rattle.search.specs.Search.{verdictOf, verdictIn}
 use Rattle.search.proofs.Sensors.{verdict-sensor}
 use Rattle.history.specs.History.{historyNext}

@@ -14,7 +14,7 @@ use Rattle.setup.specs.declared.Ruling.the-variants.{Accepted}
 use Rattle.setup.specs.Sensor.{sensorOf}
 use Rattle.wire.specs.Fields.{Contents, contentsOf, fieldsOf}
 use Rattle.wire.proofs.FieldBytes.{sensor-fields}
-use Rattle.motion.specs.Gaps.{gapAt}
+use Rattle.gaps.specs.Gaps.{gapAt}
 use Rattle.scan.specs.Carry.{steps, tells, carriedAfter}
 use Rattle.scan.proofs.CarryLaws.{told-at}
 use Rattle.feeding.specs.Feed.{datagramWith, historyAfter, consumer, noDatagram}

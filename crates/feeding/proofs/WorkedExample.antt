@@ -18,9 +18,9 @@ use Rattle.setup.specs.declared.Setup.{Setup}
 use Rattle.setup.specs.declared.Ruling.the-variants.{Accepted}
 use Rattle.wire.specs.Fields.{fieldsOfPart, contentsOf, fieldsOf}
 use Rattle.acceptance.specs.Acceptable.{checkRight, endingRight, acceptableIn, acceptable}
+use Rattle.gaps.specs.Gaps.{datagrams as count, elapsed, missedAfter, gapAt}
+use Rattle.gaps.specs.declared.Gap.the-variants.{Missed}
 use Rattle.motion.specs.Status.{unfit}
-use Rattle.motion.specs.Gaps.{datagrams as count, elapsed, missedAfter, gapAt}
-use Rattle.motion.specs.declared.Gap.the-variants.{Missed}
 use Rattle.motion.specs.Totals.{keeps, totalAt, fitReadings, fitBefore, readingOf, CloseFrom, Close}
 use Rattle.scan.specs.Scan.{scanFrom, scan}
 use Rattle.scan.specs.Front.{front}

@@ -13,12 +13,12 @@ use Rattle.setup.specs.Sensor.{sensorOf}
 use Rattle.setup.specs.declared.Sensor.{Sensor}
 use Rattle.wire.specs.Fields.{Contents, contentsOf, besidesReadings}
 use Rattle.wire.specs.declared.Fields.{Fields}
+use Rattle.gaps.specs.Gaps.{datagrams, gapBetween}
+use Rattle.gaps.specs.declared.Gap.{Gap}
+use Rattle.gaps.specs.declared.Gap.the-variants.{Missed}
 use Rattle.motion.specs.Status.{flagged}
-use Rattle.motion.specs.Gaps.{datagrams, gapBetween}
 use Rattle.motion.specs.Totals.{noAxes, keptBy, totalsOf}
 use Rattle.motion.specs.declared.Axes.{Axes}
-use Rattle.motion.specs.declared.Gap.{Gap}
-use Rattle.motion.specs.declared.Gap.the-variants.{Missed}
 use Rattle.doubles.specs.Doubles.{plusZero, groupValues, totalDoubles}
 use Rattle.doubles.specs.declared.Values.{Values}
 use Rattle.doubles.specs.declared.Values.the-variants.{Instantaneous}

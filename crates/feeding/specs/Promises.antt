@@ -14,8 +14,8 @@ use Rattle.setup.specs.declared.Setup.{Setup}
 use Rattle.setup.specs.declared.Ruling as ruling
 use Rattle.setup.specs.declared.Ruling.the-variants.{Accepted}
 use Rattle.wire.specs.Fields.{fieldsOf, besidesReadings}
+use Rattle.gaps.specs.Gaps.{gapAt}
 use Rattle.motion.specs.Status.{flagged}
-use Rattle.motion.specs.Gaps.{gapAt}
 use Rattle.motion.specs.Totals.{noAxis, Sighting, keeps, seen, totalAt, fitReadings, fitBefore, readingOf, Close, totalOf, after}
 use Rattle.doubles.specs.Doubles.{negative, plusZero, unitNumberIn, doublesIn, valuesFor, doubleAt}
 use Rattle.scan.specs.Scan.{scan}

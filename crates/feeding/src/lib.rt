@@ -1,7 +1,7 @@
 // What feeding a session gives back: no code (01, The scan; Status, doubles, gaps; Totals).
 use doubles::GroupValues;
 use doubles::TotalDoubles;
-use motion::Gap;
+use gaps::Gap;
 use motion::Totals;
 use session::Session;
 use wire::Fields;

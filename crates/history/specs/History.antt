@@ -5,9 +5,9 @@ use mathlib.Core.List.{List}
 use lib.Dec.{eqb, leb}
 use lib.IntN.{ℤ}
 use Rattle.setup.specs.declared.Rate.{Rate}
-use Rattle.motion.specs.Gaps.{datagrams, gapBetween}
+use Rattle.gaps.specs.Gaps.{datagrams, gapBetween}
+use Rattle.gaps.specs.declared.Gap.{Gap}
 use Rattle.motion.specs.Totals.{noAxes, stepped}
-use Rattle.motion.specs.declared.Gap.{Gap}
 use Rattle.history.specs.declared.History.{History}
 
 -- a fresh session's: no datagram was handed out

@@ -1,9 +1,9 @@
 // What a session keeps of the datagrams handed out, and what one more does to it (01, Status, doubles, gaps; Totals).
 ghost use mathlib.Core.Path.{_≡_};
 ghost use Rattle.history.specs.History.{noHistory, gapNext, advanced};
+use gaps::Datagrams;
+use gaps::Gap;
 use motion::Axes;
-use motion::Datagrams;
-use motion::Gap;
 use setup::Rate;
 
 // The greatest number of 64 bits.
@@ -34,7 +34,7 @@ pub fn no_history() -> History
 pub fn gap_before(rate: Rate, history: History, counter: u8) -> Gap
     ensures { λ r. ⌜ r ≡ gapNext rate history counter ⌝ }
 {
-    motion::gap_between(rate, history.datagrams.0 == 0, history.previous, counter)
+    gaps::gap_between(rate, history.datagrams.0 == 0, history.previous, counter)
 }
 
 // The history behind the next datagram, of its readings, statuses and counter; `kept`: which groups keep totals (01, Totals).

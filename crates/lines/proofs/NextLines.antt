@@ -17,12 +17,12 @@ use Rattle.setup.specs.declared.Setup.{Setup}
 use Rattle.setup.specs.declared.Ruling.the-variants.{Accepted}
 use Rattle.wire.specs.Fields.{Contents, fieldsOf}
 use Rattle.wire.proofs.FieldRanges.{Fitting, fields-fit}
-use Rattle.motion.specs.Gaps.{datagrams, stepAt, elapsed, missedAfter, gapAt}
+use Rattle.gaps.specs.Gaps.{datagrams, stepAt, elapsed, missedAfter, gapAt}
+use Rattle.gaps.specs.declared.Gap.{Gap}
+use Rattle.gaps.specs.declared.Gap.the-variants.{Missed, OffStep}
+use Rattle.gaps.proofs.Gaps.{elapsed-range}
 use Rattle.motion.specs.Totals.{groupsKept, axisAt, totalsOf}
 use Rattle.motion.specs.declared.Axes.{Axes}
-use Rattle.motion.specs.declared.Gap.{Gap}
-use Rattle.motion.specs.declared.Gap.the-variants.{Missed, OffStep}
-use Rattle.motion.proofs.Gaps.{elapsed-range}
 use Rattle.text_line.specs.ShownLine.{shownText, longestLine, rowFits, readingsFit, totalsWithin, outside}
 use Rattle.text.specs.TextLine.{shownBy}
 use Rattle.text_line.proofs.Longest.{MissedFits, shown-longest}

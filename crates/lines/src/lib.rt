@@ -18,8 +18,8 @@ ghost use Rattle.lines.specs.PieceParts.{lookedUp, nextLine, startOf, ne
 use admission::Admission;
 use feeding::Answer;
 use feeding::Datagram;
+use gaps::Gap;
 use history::History;
-use motion::Gap;
 use motion::Totals;
 use search::Place;
 use session::Session;

@@ -1,4 +1,4 @@
--- The sensor that an accepted setup describes has the setup's numbers, so gaps and kept groups by the one are those by the other. Assumes nothing.
+-- The sensor that an accepted setup describes has the setup's numbers, so kept groups by the one are those by the other. Assumes nothing.
 use Prim.Native.Nat.{ℕ, _<_}
 use mathlib.Core.Bool.{Bool, false, _&&_}
 use mathlib.Core.List.{List}
@@ -12,17 +12,12 @@ use Rattle.setup.specs.Sensor.{sensorOf}
 use Rattle.setup.specs.declared.Setup.{Setup}
 use Rattle.setup.specs.declared.Sensor.{Sensor}
 use Rattle.setup.specs.declared.Ruling.the-variants.{Accepted}
-use Rattle.setup.proofs.Sensors.{sensor-groups, sensor-unit, sensor-rate}
-use Rattle.motion.specs.Gaps.{gapAt, gapBetween}
+use Rattle.setup.proofs.Sensors.{sensor-groups, sensor-unit}
 use Rattle.motion.specs.Totals.{keeps, groupsKept, keptIn, keptBy}
 
 module _ (u : Setup) (a : rulingOn u ≡ Accepted) where
   abbrev s : Sensor
   s = sensorOf u
-
-  -- the gap
-  pub accepted-gap : (first : Bool) (previous counter : ℕ) → gapBetween (s .rate) first previous counter ≡ gapAt (u .rate) first previous counter
-  accepted-gap first previous counter = ap (λ (n : ℕ). gapAt n first previous counter) (sensor-rate u a)
 
   -- the groups that keep totals
   kept-in : (group : ℕ) → group < 3 → keptIn (s .row) (s .units) group ≡ keeps u group

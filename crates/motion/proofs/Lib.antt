@@ -1,6 +1,5 @@
 -- Laws of the rules, which other crates cite as Rattle.motion.proofs.NAME.
 pub mod Status
-pub mod Gaps
 pub mod TrueChange
 pub mod Bounds
 pub mod NineAxes

@@ -1,4 +1,3 @@
--- The rules of what the fields of a datagram mean: status and fitness, gaps and totals.
+-- The rules of what the fields of a datagram mean: status and fitness, totals.
 pub mod Status
-pub mod Gaps
 pub mod Totals

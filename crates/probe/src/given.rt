@@ -1,9 +1,9 @@
 // What a record gives a call: the values at its places. Numbers have their least significant byte first.
+use gaps::Datagrams;
+use gaps::Gap;
 use history::History;
 use motion::Axes;
 use motion::Axis;
-use motion::Datagrams;
-use motion::Gap;
 use motion::GroupAxes;
 use motion::GroupTotals;
 use motion::Total;

@@ -10,7 +10,7 @@ use Rattle.setup.specs.declared.Setup.{Setup}
 use Rattle.setup.specs.declared.Ruling as ruling
 use Rattle.setup.proofs.Rules.{first-accepted, first-refused}
 use Rattle.setup.proofs.Sensors.{sensor-groups}
-use Rattle.motion.specs.declared.Gap.{Gap}
+use Rattle.gaps.specs.declared.Gap.{Gap}
 use Rattle.motion.specs.declared.Totals.{Totals}
 use Rattle.motion.proofs.AcceptedSetup.{accepted-kept}
 use Rattle.text_line.specs.ShownLine.{shownRules, shownRuling, shownAnswer, shownBuffer}

@@ -8,8 +8,8 @@ use lib.IntN.{ℤ, pos, negsuc}
 use lib.ListN.{length, replicate}
 use Rattle.setup.specs.Layout.{partsOf, groupsCarried, partsAt}
 use Rattle.setup.specs.declared.Setup.{Setup}
+use Rattle.gaps.specs.declared.Gap.the-variants.{Missed}
 use Rattle.motion.specs.Totals.{groupsKept}
-use Rattle.motion.specs.declared.Gap.the-variants.{Missed}
 use Rattle.motion.specs.declared.Total.{Total}
 use Rattle.motion.specs.declared.GroupTotals.{GroupTotals}
 use Rattle.motion.specs.declared.Totals.{Totals}

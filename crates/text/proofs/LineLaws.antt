@@ -17,7 +17,7 @@ use Rattle.setup.specs.declared.Ruling as ruling
 use Rattle.setup.specs.declared.Ruling.{Ruling}
 use Rattle.setup.proofs.Refusals.{judge-numbers}
 use Rattle.setup.proofs.Rules.{none-applies, first-accepted, first-refused}
-use Rattle.motion.specs.declared.Gap.{Gap}
+use Rattle.gaps.specs.declared.Gap.{Gap}
 use Rattle.motion.specs.declared.Totals.{Totals}
 use Rattle.text_line.specs.ShownLine.{readingsFit, totalsWithin, outside, roomRules, shownRules, longestLine}
 use Rattle.text_line.specs.declared.Written.{Written}

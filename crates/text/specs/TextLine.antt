@@ -9,8 +9,8 @@ use Rattle.setup.specs.declared.Setup.{Setup}
 use Rattle.setup.specs.declared.Row.{Row}
 use Rattle.setup.specs.declared.Units.{Units}
 use Rattle.setup.specs.declared.Ruling.{Ruling}
+use Rattle.gaps.specs.declared.Gap.{Gap}
 use Rattle.motion.specs.Totals.{groupsKept, keptBy}
-use Rattle.motion.specs.declared.Gap.{Gap}
 use Rattle.motion.specs.declared.Totals.{Totals}
 use Rattle.text_line.specs.ShownLine.{shownText, shownRules, writtenBy, bufferBy}
 use Rattle.text_line.specs.declared.Shown.{Shown}

@@ -1,7 +1,7 @@
 // The text line of a datagram under a setup, written into a lent buffer (01, The text line).
 ghost use mathlib.Core.Path.{_≡_};
 ghost use Rattle.text.specs.TextLine.{shownOf, lineAnswer, lineBuffer};
-use motion::Gap;
+use gaps::Gap;
 use motion::Totals;
 use setup::Described;
 use setup::Row;

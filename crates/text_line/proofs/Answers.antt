@@ -12,7 +12,7 @@ use lib.ListN.{length, take, drop}
 use lib.Seq.{take-at}
 use Rattle.integers.proofs.Booleans.{or-split}
 use Rattle.integers.proofs.Buffers.{put-front}
-use Rattle.motion.specs.declared.Gap.{Gap}
+use Rattle.gaps.specs.declared.Gap.{Gap}
 use Rattle.motion.specs.declared.Totals.{Totals}
 use Rattle.text_line.specs.Putting.{Put, roomAnswer, roomBuffer}
 use Rattle.text_line.specs.ShownLine.{shownText, readingsFit, totalsWithin, outside}

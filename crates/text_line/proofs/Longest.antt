@@ -10,8 +10,8 @@ use Rattle.integers.specs.Ranges.{inReading}
 use Rattle.integers.proofs.Parts.{natAbs-parts, parts-apart}
 use Rattle.integers.proofs.Booleans.{and-split}
 use Rattle.integers.proofs.Ranges.{within-true, inReading-true}
-use Rattle.motion.specs.declared.Gap.{Gap}
-use Rattle.motion.specs.declared.Gap.the-variants.{Missed, OffStep}
+use Rattle.gaps.specs.declared.Gap.{Gap}
+use Rattle.gaps.specs.declared.Gap.the-variants.{Missed, OffStep}
 use Rattle.motion.specs.declared.Total.{Total}
 use Rattle.motion.specs.declared.GroupTotals.{GroupTotals}
 use Rattle.motion.specs.declared.Totals.{Totals}

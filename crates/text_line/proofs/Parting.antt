@@ -10,8 +10,8 @@ use lib.IntN.{ℤ, pos, negsuc}
 use lib.ListN.{length, getD, replicate}
 use Rattle.integers.proofs.Booleans.{and-split, and-true}
 use Rattle.setup_line.specs.SetupLine.{fieldsOf}
-use Rattle.motion.specs.declared.Gap.{Gap}
-use Rattle.motion.specs.declared.Gap.the-variants.{Missed, OffStep}
+use Rattle.gaps.specs.declared.Gap.{Gap}
+use Rattle.gaps.specs.declared.Gap.the-variants.{Missed, OffStep}
 use Rattle.motion.specs.declared.Total.{Total}
 use Rattle.motion.specs.declared.GroupTotals.{GroupTotals}
 use Rattle.motion.specs.declared.Totals.{Totals}

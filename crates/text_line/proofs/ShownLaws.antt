@@ -12,7 +12,7 @@ use Rattle.setup.specs.Setup.{rule, firstOf}
 use Rattle.setup.specs.declared.Ruling as ruling
 use Rattle.setup.specs.declared.Ruling.{Ruling}
 use Rattle.setup.proofs.Rules.{first-within}
-use Rattle.motion.specs.declared.Gap.{Gap}
+use Rattle.gaps.specs.declared.Gap.{Gap}
 use Rattle.motion.specs.declared.Totals.{Totals}
 use Rattle.text_line.specs.ShownLine.{shownText, outside, shownRules, writtenBy, shownRuling, shownAnswer, shownBuffer}
 use Rattle.text_line.specs.declared.Shown.{Shown}

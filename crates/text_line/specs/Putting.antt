@@ -5,7 +5,7 @@ use mathlib.Core.List.{List, [], _∷_, _++_}
 use lib.ListN.{length}
 use lib.Seq.{sets}
 use Rattle.setup.specs.Setup.{firstOf}
-use Rattle.motion.specs.declared.Gap.{Gap}
+use Rattle.gaps.specs.declared.Gap.{Gap}
 use Rattle.text_line.specs.Decimal.{digits}
 use Rattle.text_line.specs.ShownLine.{missedField, roomRules, writtenBy, bufferBy}
 use Rattle.text_line.specs.declared.Written.{Written}

@@ -8,7 +8,7 @@ ghost use Rattle.text_line.specs.Putting.{Put, behind, headingText, room
 ghost use Rattle.text_line.specs.ShownLine.{shownIf, missedField, axisFields, totalField, totalFields, groupFields, groupsFields, shownText};
 ghost use Rattle.text_line.specs.ShownLine.{rowFits, readingsFit, totalWithin, groupWithin, totalsWithin, outside};
 ghost use Rattle.text_line.specs.ShownLine.{shownAnswer, shownBuffer, longestLine};
-use motion::Gap;
+use gaps::Gap;
 use motion::GroupTotals;
 use motion::Total;
 use motion::Totals;

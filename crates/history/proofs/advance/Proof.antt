@@ -4,7 +4,7 @@ use mathlib.Core.Path.{ap}
 use native.Mathlib.Omega.{arith}
 use borrow.Author.Tests.{le-leb, lt-leb}
 use borrow.Author.Needs.{needs}
-use Rattle.motion.specs.Gaps.{datagrams}
+use Rattle.gaps.specs.Gaps.{datagrams}
 use Rattle.motion.specs.declared.Axes.{Axes}
 use Rattle.history.specs.History.{historyNext, advanced}
 use Rattle.history.proofs.advance.Statement.{statement}

@@ -13,8 +13,8 @@ use Rattle.setup.specs.Sensor.{sensorOf}
 use Rattle.setup.proofs.Refusals.{accepted-length}
 use Rattle.wire.specs.Fields.{Contents, contentsOf, fieldsOf}
 use Rattle.wire.proofs.FieldBytes.{sensor-fields}
+use Rattle.gaps.proofs.AcceptedSetup.{accepted-gap}
 use Rattle.motion.specs.Totals.{groupsKept, totalsOf}
-use Rattle.motion.proofs.AcceptedSetup.{accepted-gap}
 use Rattle.text_line.specs.ShownLine.{shownText, outside, longestLine}
 use Rattle.text.specs.TextLine.{shownBy}
 use Rattle.search.proofs.Datagrams.{datagram-length}

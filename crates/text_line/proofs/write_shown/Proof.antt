@@ -10,10 +10,10 @@ use mir.Val.{Fits}
 use denote.Laws.{Is}
 use denote.Enum.Declared.{row}
 use denote.Enum.Laws.{val}
-use Rattle.motion.proofs.Gap as gap
-use Rattle.motion.proofs.Gap.Laws as laws
-use Rattle.motion.specs.declared.Gap.{Gap}
-use Rattle.motion.specs.declared.Gap.the-variants.{Missed, OffStep}
+use Rattle.gaps.proofs.Gap as gap
+use Rattle.gaps.proofs.Gap.Laws as laws
+use Rattle.gaps.specs.declared.Gap.{Gap}
+use Rattle.gaps.specs.declared.Gap.the-variants.{Missed, OffStep}
 use Rattle.text_line.specs.ShownLine.{shownText, outside, longestLine}
 use Rattle.text_line.proofs.Answers.{inside, values-refused, apart-written, put-written}
 use Rattle.text_line.proofs.Longest.{MissedFits, shown-longest}

@@ -11,7 +11,7 @@ use borrow.Author.Tests.{eqb-false, ne-eqb}
 use Rattle.integers.specs.Rounding.{residue}
 use Rattle.integers.proofs.Parts.{sub-parts}
 use Rattle.integers.proofs.Rounding.{residue-below, floor-split}
-use Rattle.motion.specs.Gaps.{samples, missedIn, stepAt, elapsed, missedAfter, gapAt}
+use Rattle.gaps.specs.Gaps.{samples, missedIn, stepAt, elapsed, missedAfter, gapAt}
 
 -- the samples between two counters as code has them
 modulo-bytes : (previous counter : ℕ) → previous ≤ 256 → (counter + 256 - previous) % 256 ≡ residue (pos counter -ℤ pos previous) 256

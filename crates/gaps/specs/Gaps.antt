@@ -8,10 +8,10 @@ use lib.IntN.{pos, _-ℤ_}
 use Rattle.integers.specs.Rounding.{residue}
 use Rattle.setup.specs.Setup.{hertz}
 use Rattle.setup.specs.declared.Rate.{Rate}
-use Rattle.motion.specs.declared.Samples.{Samples}
-use Rattle.motion.specs.declared.Datagrams.{Datagrams}
-use Rattle.motion.specs.declared.Gap.{Gap}
-use Rattle.motion.specs.declared.Gap.the-variants.{Missed, OffStep}
+use Rattle.gaps.specs.declared.Samples.{Samples}
+use Rattle.gaps.specs.declared.Datagrams.{Datagrams}
+use Rattle.gaps.specs.declared.Gap.{Gap}
+use Rattle.gaps.specs.declared.Gap.the-variants.{Missed, OffStep}
 
 abbrev pub samples : ℕ → Samples
 samples n = record { 0 = n }

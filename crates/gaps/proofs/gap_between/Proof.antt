@@ -1,4 +1,4 @@
--- `motion::gap_between` meets its contract. Assumes nothing.
+-- `gaps::gap_between` meets its contract. Assumes nothing.
 use Prim.Native.Nat.{ℕ, _<_}
 use mathlib.Core.Bool.{false}
 use mathlib.Core.Path.{_≡_, refl}
@@ -6,12 +6,12 @@ use native.Mathlib.Omega.{arith}
 use lib.Dec.{eqb}
 use Rattle.setup.specs.Setup.{hertz}
 use Rattle.setup.specs.declared.Rate.{Rate}
-use Rattle.motion.specs.declared.Gap.{Gap}
-use Rattle.motion.specs.Gaps.{samples, stepAt, missedAfter, gapAt, gapBetween}
-use Rattle.motion.proofs.Gaps.{elapsed-range}
+use Rattle.gaps.specs.declared.Gap.{Gap}
+use Rattle.gaps.specs.Gaps.{samples, stepAt, missedAfter, gapAt, gapBetween}
+use Rattle.gaps.proofs.Gaps.{elapsed-range}
 use borrow.Author.Needs.{needs}
-use Rattle.motion.proofs.gap_between.Statement.{statement}
-use Rattle.motion.proofs.gap_between.Tie as tie
+use Rattle.gaps.proofs.gap_between.Statement.{statement}
+use Rattle.gaps.proofs.gap_between.Tie as tie
 
 -- at least one sample goes by
 some : (c : tie.After-elapsed) → 0 < c .elapsed .result .0

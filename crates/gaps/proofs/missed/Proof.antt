@@ -1,12 +1,12 @@
--- `motion::missed` meets its contract. Assumes nothing.
+-- `gaps::missed` meets its contract. Assumes nothing.
 use borrow.Author.Tests.{eq-eqb, ne-eqb}
 use native.Mathlib.Nat.{div-le-self}
 use native.Mathlib.Omega.{arith}
-use Rattle.motion.specs.Gaps.{missedAfter}
-use Rattle.motion.proofs.Gaps.{quotient-positive}
+use Rattle.gaps.specs.Gaps.{missedAfter}
+use Rattle.gaps.proofs.Gaps.{quotient-positive}
 use borrow.Author.Needs.{needs}
-use Rattle.motion.proofs.missed.Statement.{statement}
-use Rattle.motion.proofs.missed.Tie as tie
+use Rattle.gaps.proofs.missed.Statement.{statement}
+use Rattle.gaps.proofs.missed.Tie as tie
 
 rem-if1 : tie.Need-rem-if1
 rem-if1 c = search needs

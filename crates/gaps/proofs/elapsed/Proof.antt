@@ -1,14 +1,14 @@
--- `motion::elapsed` meets its contract. Assumes nothing.
+-- `gaps::elapsed` meets its contract. Assumes nothing.
 use Prim.Native.Nat.{_+_, _-_, _%_}
 use mathlib.Core.Bool.{Bool, cond}
 use mathlib.Core.Path.{refl, sym, ap, _∙_}
 use native.Mathlib.Omega.{arith}
 use borrow.Author.Tests.{eq-eqb, ne-eqb}
-use Rattle.motion.specs.Gaps.{samples}
-use Rattle.motion.proofs.Gaps.{elapsed-code}
+use Rattle.gaps.specs.Gaps.{samples}
+use Rattle.gaps.proofs.Gaps.{elapsed-code}
 use borrow.Author.Needs.{needs}
-use Rattle.motion.proofs.elapsed.Statement.{statement}
-use Rattle.motion.proofs.elapsed.Tie as tie
+use Rattle.gaps.proofs.elapsed.Statement.{statement}
+use Rattle.gaps.proofs.elapsed.Tie as tie
 
 add-d : tie.Need-add-d
 add-d c = search needs

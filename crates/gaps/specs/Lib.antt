@@ -1,0 +1,2 @@
+-- The rule of what lies between two datagrams.
+pub mod Gaps
