@@ -7,7 +7,7 @@ use native.Mathlib.Omega.{arith}
 use lib.ListN.{length, getD}
 use Rattle.integers.specs.Bytes.{AllBytes, areBytes}
 use Rattle.integers.proofs.Booleans.{and-split}
-use Rattle.integers.proofs.Bytes.{areBytes-all, all-areBytes}
+use Rattle.integers.proofs.Bytes.{areBytes-all}
 use Rattle.setup.specs.Setup.{rulingOn, lengthOf}
 use Rattle.setup.specs.declared.Setup.{Setup}
 use Rattle.setup.specs.declared.Ruling.the-variants.{Accepted}
@@ -24,11 +24,6 @@ module _ (u : Setup) (d : List ℕ) where
   pub datagram-parts : isDatagram u d ≡ true → AllBytes d × (acceptable u d ≡ true)
   unfolding isDatagram
   datagram-parts e = let k = and-split (areBytes d) (acceptable u d) e in (areBytes-all d (k .0), k .1)
-
-  -- of bytes only the content decides
-  pub bytes-datagram : AllBytes d → isDatagram u d ≡ acceptable u d
-  unfolding isDatagram
-  bytes-datagram h = rw (all-areBytes d h)
 
 -- it has the setup's length and begins with its identifier
 module _ (u : Setup) (d : List ℕ) (good : isDatagram u d ≡ true) where

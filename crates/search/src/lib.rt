@@ -33,14 +33,17 @@ fn is_datagram(sensor: Sensor, s: &[u8]) -> bool
     acceptance::is_acceptable(sensor.identifier, row, sensor.terminated, s)
 }
 
-// Whether a byte stands among the sixteen from a place on. All sixteen are looked at, which the compiler does at once.
+// How many bytes are looked at together.
+const TOGETHER: usize = 16;
+
+// Whether a byte stands among the sixteen from a place on. All of them are looked at, which the compiler does at once.
 fn is_near(byte: u8, bytes: &[u8], place: usize) -> bool
     requires { ⌜ place + 16 ≤ length (now bytes) ⌝ }
     ensures { λ r. ⌜ r ≡ ltb (indexOf byte (drop place (now (bytes .entry)))) 16 ⌝ }
 {
     let mut found = false;
     let mut i = 0;
-    while i < 16 {
+    while i < TOGETHER {
         let at = place + i;
         found = found | (bytes[at] == byte);
         i += 1;
@@ -54,11 +57,11 @@ fn near_place(byte: u8, bytes: &[u8], from: usize) -> usize
     ensures { λ r. ⌜ (r ≤ length (now (bytes .entry))) × (r + indexOf byte (drop r (now (bytes .entry))) ≡ from + indexOf byte (drop from (now (bytes .entry)))) ⌝ }
 {
     let mut i = from;
-    while 16 <= bytes.len() - i {
+    while TOGETHER <= bytes.len() - i {
         if is_near(byte, bytes, i) {
             return i;
         }
-        i += 16;
+        i += TOGETHER;
     }
     i
 }
