@@ -7,9 +7,6 @@ ghost use lib.ListN.{length};
 ghost use Rattle.setup.specs.Layout.{layoutOf, lengthIn};
 ghost use Rattle.acceptance.specs.Acceptable.{checkRight, endingRight, acceptableIn};
 
-// Bytes of the check, with which a datagram without an ending ends.
-const CHECK: usize = 4;
-
 // The bytes behind the check are right: 0x0D 0x0A, or none.
 fn ending_right(row: Row, terminated: bool, s: &[u8]) -> bool
     requires { ⌜ length (now s) ≡ lengthIn (layoutOf row terminated) ⌝ }
@@ -28,7 +25,7 @@ fn check_right(row: Row, s: &[u8]) -> bool
     requires { ⌜ lengthIn (layoutOf row false) ≤ length (now s) ⌝ }
     ensures { λ r. ⌜ r ≡ checkRight (layoutOf row false) (now (s .entry)) ⌝ }
 {
-    let place = wire::length_of(row, false) - CHECK;
+    let place = wire::check_place(row);
     let sent = integers::four_bytes_of(s[place], s[place + 1], s[place + 2], s[place + 3]);
     sent == crc::crc32(&s[..place])
 }

@@ -105,8 +105,8 @@ fn counter_place(row: Row) -> usize
     temperatures_end(row) + if_carried(row.aux, AUX)
 }
 
-// The check stands behind the latency.
-fn check_place(row: Row) -> usize
+// Where the check stands: behind the latency.
+pub fn check_place(row: Row) -> usize
     ensures { λ r. ⌜ r ≡ bytes (partsOf row) ⌝ }
 {
     counter_place(row) + COUNTER + LATENCY
