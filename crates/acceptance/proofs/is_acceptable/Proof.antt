@@ -4,6 +4,7 @@ use mathlib.Core.Bool.{true, false, not, _||_}
 use borrow.Author.Tests.{eq-eqb, ne-eqb}
 use lib.Dec.{eqb}
 use lib.ListN.{getD}
+use Rattle.setup.specs.Layout.{layoutOf, lengthIn}
 use Rattle.setup.proofs.Layouts.{length-range}
 use Rattle.acceptance.proofs.Acceptance.{tested}
 use borrow.Author.Needs.{needs}
@@ -16,7 +17,8 @@ length-of-requires c κs = search needs
 returns : tie.Need-returns
 returns c =
     let a = c .before .before .before .args in
-    rw (tested (a .identifier) (a .row) (a .terminated) (a .s .now), ← c .before .length-of .ensures, ne-eqb _ _ (c .if1 .taken))
+    let long : c .before .length-of .result ≡ lengthIn (layoutOf (a .row) (a .terminated)) = c .before .length-of .ensures in
+    rw (tested (a .identifier) (a .row) (a .terminated) (a .s .now), ← long, ne-eqb _ _ (c .if1 .taken))
 
 shared-slice-read-if2 : tie.Need-shared-slice-read-if2
 shared-slice-read-if2 c =
