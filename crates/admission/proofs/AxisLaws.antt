@@ -79,7 +79,7 @@ each-group kept n g h =
     (and-true (facts-axis kept n (g .y) (h 1 (omega arith))) (facts-axis kept n (g .z) (h 2 (omega arith))))
 
 -- kept: which groups keep totals
-abbrev EachRight : List Bool → ℕ → Axes → Type 0
+abbrev pub EachRight : List Bool → ℕ → Axes → Type 0
 EachRight kept n a = (group axis : ℕ) → group < 3 → axis < 3 → AxisFacts (getD kept group false) n (axisAt a group axis)
 
 module _ (kept : List Bool) (n : ℕ) (a : Axes) where
@@ -94,7 +94,7 @@ module _ (kept : List Bool) (n : ℕ) (a : Axes) where
       (group-at (getD kept 2 false) n (a .inclinometer) (q .1) axis k)
       group h
 
-  each-axes : EachRight kept n a → axesRightBy kept n a ≡ true
+  pub each-axes : EachRight kept n a → axesRightBy kept n a ≡ true
   unfolding axesRightBy
   each-axes h =
       and-true (each-group (getD kept 0 false) n (a .gyro) (λ axis k. h 0 axis (omega arith) k))

@@ -3,3 +3,4 @@ pub mod AxisLaws
 pub mod Soundness
 pub mod PieceRulings
 pub mod FreshSessions
+pub mod TenLaws

@@ -1,19 +1,21 @@
 -- What the ruling on a piece and the admission tell: the number that refuses it, or that nothing does (01, What is turned down, 10 to 12).
 -- Assumes nothing.
 use Prim.Native.Nat.{ℕ, _+_, _≤_}
-use mathlib.Core.Path.{_≡_, refl, ap}
+use mathlib.Core.Option.{Option, none, some}
+use mathlib.Core.Path.{_≡_, refl, ap, _∙_}
 use mathlib.Core.Bool.{true}
 use native.Mathlib.Omega.{arith}
 use borrow.Author.Tests.{le-ltb, ltb-false, not-false}
+use Rattle.setup.specs.Setup.{rulingNumber, rulingWith}
 use Rattle.setup.specs.Sensor.{sensorOf}
 use Rattle.setup.specs.declared.Sensor.{Sensor}
 use Rattle.setup.specs.declared.Ruling.{Ruling}
 use Rattle.setup.specs.declared.Ruling.the-variants.{Accepted, Refused}
-use Rattle.setup.proofs.Rules.{first-within, none-applies}
+use Rattle.setup.proofs.Rules.{first-number, first-within, none-applies}
 use Rattle.search.specs.Search.{limitsOf}
 use Rattle.session.specs.declared.Session.{Session}
 use Rattle.admission.specs.declared.Admission as admission
-use Rattle.admission.specs.Admission.{isSound, pieceRules, pieceRuling, admissionBy, admissionOf}
+use Rattle.admission.specs.Admission.{isSound, pieceRules, pieceNumber, pieceRuling, admissionBy, admissionOf, admissionSensor, admissionNumber}
 
 -- nothing refuses a piece of n bytes
 pub record Admitted (s : Session) (n : ℕ) : Type 0 where
@@ -59,3 +61,24 @@ module _ (s : Session) (n : ℕ) where
   pub piece-numbers : {m : ℕ} → pieceRuling s n ≡ Refused m → (10 ≤ m) × (m ≤ 12)
   unfolding pieceRuling
   piece-numbers e = first-within 10 12 (pieceRules s n) (omega arith) e
+
+  -- what the admission says, by the piece's number
+  pub number-told : rulingNumber (pieceRuling s n) ≡ pieceNumber s n
+  unfolding pieceRuling pieceNumber
+  number-told = first-number (pieceRules s n)
+
+  pub admitted-number : admissionNumber (admissionOf s n) ≡ pieceNumber s n
+  unfolding admissionOf
+  admitted-number = by (pieceRuling s n) ∙ number-told
+    where
+      by : (r : Ruling) → admissionNumber (admissionBy r (sensorOf (s .setup))) ≡ rulingNumber r
+      by Accepted = refl
+      by (Refused m) = refl
+
+  pub admitted-sensor : pieceNumber s n ≡ none → admissionSensor (admissionOf s n) ≡ some (sensorOf (s .setup))
+  unfolding admissionOf pieceRuling pieceNumber
+  admitted-sensor e = ap (λ (o : Option ℕ). admissionSensor (admissionBy (rulingWith o) (sensorOf (s .setup)))) e
+
+  pub number-refused : {m : ℕ} → pieceNumber s n ≡ some m → pieceRuling s n ≡ Refused m
+  unfolding pieceRuling pieceNumber
+  number-refused e = ap rulingWith e

@@ -2,10 +2,11 @@
 use Prim.Native.Nat.{ℕ, _+_, _*_, _^_}
 use mathlib.Core.Bool.{Bool, true, false, not, _&&_, _||_}
 use mathlib.Core.List.{List, [], _∷_}
+use mathlib.Core.Option.{Option, none, some}
 use lib.Dec.{eqb, leb, ltb}
 use lib.ListN.{length, take, drop, getD}
 use Rattle.integers.specs.Ranges.{isZero, within, inReading}
-use Rattle.setup.specs.Setup.{Rule, rule, firstOf, rulingOn, lengthOf}
+use Rattle.setup.specs.Setup.{Rule, rule, firstNumber, firstOf, rulingOn, lengthOf}
 use Rattle.setup.specs.Sensor.{sensorOf}
 use Rattle.setup.specs.declared.Setup.{Setup}
 use Rattle.setup.specs.declared.Sensor.{Sensor}
@@ -102,6 +103,10 @@ pieceRules s n =
     let l : rules.Limits = limitsOf (s .setup) in
     rule 10 (not (isSound s)) ∷ rule (l .tooLong) (ltb (l .piece) n) ∷ rule 12 (ltb (l .session) (s .fed + n)) ∷ []
 
+-- the number that refuses it, none for a piece that is admitted
+unfoldable pub pieceNumber : Session → ℕ → Option ℕ
+pieceNumber s n = firstNumber (pieceRules s n)
+
 unfoldable pub pieceRuling : Session → ℕ → Ruling
 pieceRuling s n = firstOf (pieceRules s n)
 
@@ -112,3 +117,12 @@ admissionBy (Refused number) sensor = admission.the-variants.Refused number
 
 unfoldable pub admissionOf : Session → ℕ → Admission
 admissionOf s n = admissionBy (pieceRuling s n) (sensorOf (s .setup))
+
+-- what each case says: the sensor, or the number that refuses the piece
+abbrev pub admissionSensor : Admission → Option Sensor
+admissionSensor (admission.the-variants.Admitted sensor) = some sensor
+admissionSensor (admission.the-variants.Refused number) = none
+
+abbrev pub admissionNumber : Admission → Option ℕ
+admissionNumber (admission.the-variants.Admitted sensor) = none
+admissionNumber (admission.the-variants.Refused number) = some number

@@ -1,12 +1,13 @@
 -- The starred bench cases of 01 as one list of facts about the rules, each by computation. Assumes nothing.
 use mathlib.Core.Bool.{true, false}
 use mathlib.Core.List.{[], _∷_}
+use mathlib.Core.Option.{none, some}
 use mathlib.Core.Path.{_≡_, refl}
 use lib.IntN.{pos, negsuc}
 use lib.Ieee.{binary64, round, ofBits}
 use Rattle.integers.specs.Bytes.{signedBytes}
 use Rattle.integers.proofs.BenchCases.{greatest, least, minus-one, past-the-top, half-way}
-use Rattle.gaps.specs.Gaps.{missedIn, elapsed, missedAfter, gapAt}
+use Rattle.gaps.specs.Gaps.{datagrams, elapsed, missedAfter, missedAt}
 use Rattle.motion.specs.Status.{unfit, fitAxes}
 use Rattle.motion.specs.Totals.{difference}
 use Rattle.doubles.specs.Doubles.{quotient}
@@ -21,9 +22,9 @@ Starred =
     (difference (negsuc 8388599) (pos 8388600) ≡ pos 16) ×
     (difference (negsuc 8388607) (pos 0) ≡ negsuc 8388607) ×
     -- rate 500, counter 254 to 2: missed 0; rate 125, 2 to 2: missed 15; rate 1000, 0 to 3: off step
-    (missedIn (gapAt 500 false 254 2) ≡ 0 ∷ []) ×
-    (missedIn (gapAt 125 false 2 2) ≡ 15 ∷ []) ×
-    (missedIn (gapAt 1000 false 0 3) ≡ []) ×
+    (missedAt 500 false 254 2 ≡ some (datagrams 0)) ×
+    (missedAt 125 false 2 2 ≡ some (datagrams 15)) ×
+    (missedAt 1000 false 0 3 ≡ none) ×
     -- 16384 at shift 14 is 1.0; -8388608 at 21 is -4.0
     (quotient (pos 16384) 14 ≡ ofBits binary64 0x3FF0_0000_0000_0000) ×
     (quotient (negsuc 8388607) 21 ≡ ofBits binary64 0xC010_0000_0000_0000) ×
@@ -32,5 +33,5 @@ Starred =
     (fitAxes 0x20 ≡ true ∷ true ∷ true ∷ [])
 
 pub starred : Starred
-unfolding difference gapAt elapsed missedAfter quotient round ofBits unfit
+unfolding difference missedAt elapsed missedAfter quotient round ofBits unfit
 starred = (greatest, least, minus-one, past-the-top, half-way, refl, refl, refl, refl, refl, refl, refl)

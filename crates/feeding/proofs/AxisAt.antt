@@ -17,7 +17,7 @@ use Rattle.wire.specs.Fields.{fieldsOf}
 use Rattle.motion.specs.Totals.{groupsKept, noAxis, Sighting, keptStep, keeps, axisAt, none, totalOf, totalAt, after}
 use Rattle.motion.specs.declared.Axis.{Axis}
 use Rattle.motion.proofs.Bounds.{keptAfter, after-next, after-not-kept, after-within, after-bound}
-use Rattle.motion.proofs.NineAxes.{step-at, none-at, total-at}
+use Rattle.motion.proofs.NineAxes.{step-at, kept-at, none-at, total-at}
 use Rattle.doubles.specs.Doubles.{shiftIn, totalDouble, doubleAt}
 use Rattle.doubles.proofs.Doubles.{double-at}
 use Rattle.scan.specs.Carry.{steps, carriedAfter}
@@ -27,7 +27,7 @@ use Rattle.history.specs.declared.History.{History}
 use Rattle.feeding.specs.declared.Datagram.{Datagram}
 use Rattle.feeding.specs.Feed.{datagramWith, historyAfter, tell, consumer, noDatagram}
 use Rattle.feeding.specs.Promises.{answersFor, sighting, sightings}
-use Rattle.feeding.proofs.BySetup.{kept-at, after-datagram}
+use Rattle.feeding.proofs.BySetup.{after-datagram}
 
 -- by 01's rule for one axis, up to 2 ^ 30 datagrams
 pub after-ruled :
@@ -59,7 +59,7 @@ module _ (u : Setup) (group axis : ℕ) where
 
   module _ (ok : rulingOn u ≡ Accepted) (h : group < 3) (k : axis < 3) where
     -- the axis behind a datagram
-    axis-next :
+    pub axis-next :
         (first : Bool) (x : History) (d : List ℕ)
         → axisAt (historyAfter (sensorOf u) first x d .axes) group axis ≡ keptStep (keeps u group) (axisAt (x .axes) group axis) (sighting u group axis d)
     unfolding historyNext

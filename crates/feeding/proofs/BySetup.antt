@@ -22,11 +22,6 @@ use Rattle.history.specs.History.{historyNext}
 use Rattle.history.specs.declared.History.{History}
 use Rattle.feeding.specs.Feed.{datagramWith, historyAfter, tell}
 
--- the mark of one of the three groups
-pub kept-at : (u : Setup) (group : ℕ) → group < 3 → getD (groupsKept u) group false ≡ keeps u group
-unfolding groupsKept
-kept-at u = each (λ (g : ℕ). getD (groupsKept u) g false ≡ keeps u g) refl refl refl
-
 module _ (u : Setup) (ok : rulingOn u ≡ Accepted) where
   -- the scan by a setup's sensor
   pub sensor-verdict : (s : Sensor) → s ≡ sensorOf u → verdictIn s ≡ verdictOf u

@@ -14,11 +14,11 @@ use Rattle.setup.specs.declared.Ruling.the-variants.{Accepted}
 use Rattle.setup.specs.Sensor.{sensorOf}
 use Rattle.wire.specs.Fields.{Contents, contentsOf, fieldsOf}
 use Rattle.wire.proofs.FieldBytes.{sensor-fields}
-use Rattle.gaps.specs.Gaps.{gapAt}
-use Rattle.scan.specs.Carry.{steps, tells, carriedAfter}
+use Rattle.gaps.specs.Gaps.{missedAt}
+use Rattle.scan.specs.Carry.{steps, carriedAfter}
 use Rattle.scan.proofs.CarryLaws.{told-at}
-use Rattle.feeding.specs.Feed.{datagramWith, historyAfter, consumer, noDatagram}
-use Rattle.feeding.proofs.BySetup.{told-datagram}
+use Rattle.feeding.specs.Feed.{historyAfter, consumer, noDatagram}
+use Rattle.feeding.proofs.DatagramLaws.{contained-told}
 use Rattle.history.specs.History.{noHistory, awaitsFirst, historyNext}
 use Rattle.history.specs.declared.History.{History}
 use Rattle.feeding.specs.Promises.{answersFor, Contained}
@@ -56,32 +56,31 @@ module _ (u : Setup) where
     abbrev now : Contents
     now = fieldsOf (u .identifier) (getD es i [])
 
+    abbrev earlier : ℕ
+    earlier = fieldsOf (u .identifier) (getD es (i - 1) []) .counter
+
     -- the counter of the one before
-    gap-at :
-        gapAt (u .rate) (eqb i 0) (before .previous) (now .counter)
-        ≡ gapAt (u .rate) (eqb i 0) (fieldsOf (u .identifier) (getD es (i - 1) []) .counter) (now .counter)
-    unfolding gapAt
+    gap-at : missedAt (u .rate) (eqb i 0) (before .previous) (now .counter) ≡ missedAt (u .rate) (eqb i 0) earlier (now .counter)
+    unfolding missedAt
     gap-at = by i l
       where
         by :
             (n : ℕ) → n < length es
-            → gapAt (u .rate) (eqb n 0) (carriedAfter (consumer u) noHistory (take n es) .previous) (now .counter)
-            ≡ gapAt (u .rate) (eqb n 0) (fieldsOf (u .identifier) (getD es (n - 1) []) .counter) (now .counter)
+            → missedAt (u .rate) (eqb n 0) (carriedAfter (consumer u) noHistory (take n es) .previous) (now .counter)
+            ≡ missedAt (u .rate) (eqb n 0) (fieldsOf (u .identifier) (getD es (n - 1) []) .counter) (now .counter)
         by zero h = refl
         by (suc n) h =
-            ap (λ (k : ℕ). gapAt (u .rate) (eqb (suc n) 0) k (now .counter))
+            ap (λ (k : ℕ). missedAt (u .rate) (eqb (suc n) 0) k (now .counter))
             (carried-previous noHistory es n (omega arith) ∙ ap (λ (c : Contents). c .counter) (sym (sensor-fields u (getD es n []) ok)))
-            ∙ ap (λ (m : ℕ). gapAt (u .rate) (eqb (suc n) 0) (fieldsOf (u .identifier) (getD es m []) .counter) (now .counter)) (sym (pred-suc n))
+            ∙ ap (λ (m : ℕ). missedAt (u .rate) (eqb (suc n) 0) (fieldsOf (u .identifier) (getD es m []) .counter) (now .counter)) (sym (pred-suc n))
 
-    gap-told :
-        gapAt (u .rate) (awaitsFirst before) (before .previous) (now .counter)
-        ≡ gapAt (u .rate) (eqb i 0) (fieldsOf (u .identifier) (getD es (i - 1) []) .counter) (now .counter)
-    gap-told = ap (λ (b : Bool). gapAt (u .rate) b (before .previous) (now .counter)) first-at ∙ gap-at
-
-    contained : Contained u es i (tells (consumer u) before (getD es i []))
-    contained =
-        subst (Contained u es i) (sym (told-datagram u ok (awaitsFirst before) before (getD es i [])))
-        (record { readings = unfold datagramWith fieldsOf in refl; fields = unfold datagramWith in refl; flags = unfold datagramWith in refl; gap = unfold datagramWith in gap-told })
-
-    pub contained-at : Contained u es i (getD (answersFor u es) i noDatagram)
-    contained-at = subst (Contained u es i) (sym (told-at (consumer u) noHistory es i noDatagram l)) contained
+    pub contained-at : Contained u (eqb i 0) earlier (getD es i []) (getD (answersFor u es) i noDatagram)
+    contained-at =
+        let c = contained-told u ok before (getD es i []) in
+        subst (Contained u (eqb i 0) earlier (getD es i [])) (sym (told-at (consumer u) noHistory es i noDatagram l))
+        (record {
+          readings = c .readings;
+          fields = c .fields;
+          flags = c .flags;
+          gap = c .gap ∙ ap (λ (b : Bool). missedAt (u .rate) b (before .previous) (now .counter)) first-at ∙ gap-at;
+        })

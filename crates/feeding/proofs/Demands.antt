@@ -1,65 +1,62 @@
 -- Demands 2 and 3 of every setup that is not refused.
 -- Assumes nothing.
-use Prim.Native.Nat.{ℕ, suc, _+_, _*_, _^_, _≤_, _<_}
+use Prim.Native.Nat.{ℕ, suc, _+_, _-_, _*_, _^_, _≤_, _<_}
 use mathlib.Core.Path.{_≡_, refl, sym, ap, _∙_, subst}
 use mathlib.Core.Bool.{Bool, true, cond}
 use mathlib.Core.List.{List, []}
 use native.Mathlib.Omega.{arith}
-use lib.Ieee.{Float}
-use lib.Ieee.Exact.{HasValue}
 use lib.IntN.{ℤ, pos, natAbs, _-ℤ_, _*ℤ_}
+use lib.Dec.{eqb}
 use lib.Seq.{length-take-le}
 use lib.ListN.{length, take, getD, length-map}
-use Rattle.integers.proofs.Folding.{abs-of-range}
 use Rattle.integers.proofs.Buffers.{padded-front}
-use Rattle.setup.specs.Setup.{rulingOn, lengthOf}
+use Rattle.setup.specs.Setup.{rulingNumber, rulingOn, lengthOf}
 use Rattle.setup.specs.declared.Setup.{Setup}
 use Rattle.setup.specs.declared.Ruling.the-variants.{Accepted}
+use Rattle.setup.proofs.Rules.{number-accepted, number-refused}
 use Rattle.wire.specs.Fields.{fieldsOf}
-use Rattle.wire.proofs.FieldRanges.{fields-fit}
 use Rattle.motion.specs.Totals as totals
-use Rattle.motion.specs.Totals.{Sighting, keeps, none, totalOf, totalAt, fitReadings, fitBefore, readingOf}
+use Rattle.motion.specs.Totals.{Sighting, keeps, axisAt, none, totalOf, totalAt, fitReadings, fitBefore, readingOf}
 use Rattle.motion.specs.declared.Total.{Total}
 use Rattle.motion.proofs.Bounds.{keptAfter}
 use Rattle.motion.proofs.TrueChange.{kept-at-each, carried-at, place-of}
-use Rattle.doubles.specs.Doubles.{negative, plusZero, unitNumberIn, doublesIn, shiftIn, groupValues, valuesFor, totalDouble, doubleAt}
-use Rattle.doubles.specs.declared.Values.{Values}
-use Rattle.doubles.proofs.AcceptedSetup.{accepted-unit, accepted-value, accepted-total}
 use Rattle.scan.specs.Scan.{scan}
 use Rattle.scan.specs.Calls as calls
 use Rattle.scan.specs.Calls.{Report, skip}
 use Rattle.scan.specs.Stream.{joined, Among, Bare, NoTen}
-use Rattle.scan.specs.Carry.{carriedAfter, Delivered}
+use Rattle.scan.specs.Carry.{steps, carriedAfter, Delivered}
 use Rattle.scan.proofs.AmongLaws.{scan-among, among-scan}
 use Rattle.scan.proofs.CarryLaws.{told-at, length-told, among-each, joined-least}
 use Rattle.scan.proofs.RunLaws.{ready, always-run, always-delivered, run-one, fresh-safe}
 use Rattle.scan.proofs.StreamLaws.{every-stream, reports-no-ten}
 use Rattle.scan.proofs.OneLength.{joined-length, scan-bare}
 use Rattle.search.specs.Search.{isDatagram, limitsOf, rulesOf, verdictOf}
-use Rattle.search.proofs.Datagrams.{datagram-length, datagram-least, lawful, prompt, datagram-parts}
+use Rattle.search.proofs.Datagrams.{datagram-length, datagram-least, lawful, prompt}
 use Rattle.motion.specs.Totals.{noAxis}
 use Rattle.history.specs.History.{noHistory}
 use Rattle.history.specs.declared.History.{History}
 use Rattle.session.specs.Session.{freshOf, opening}
 use Rattle.admission.specs.Admission.{isSound, heldBytes}
+use Rattle.admission.specs.SoundSession.{PassesTen}
 use Rattle.session.specs.declared.Session.{Session}
 use Rattle.session.specs.declared.Opened.{Opened}
 use Rattle.feeding.specs.declared.Datagram.{Datagram}
-use Rattle.feeding.specs.Feed.{consumer, SessionState, sessionOf, datagramWith, noDatagram, Calls}
+use Rattle.feeding.specs.Feed.{consumer, SessionState, sessionOf, noDatagram, feedOf, Calls}
 use Rattle.feeding.specs.OneLength.{OneLength}
-use Rattle.feeding.specs.Promises.{streamOf, FedInTurn, answersFor, sighting, sightings, shiftOf, TotalExact, EveryCall, Contained, Exact, Demand2, Stands, Carry, Demand3}
+use Rattle.feeding.specs.Promises.{streamOf, FedInTurn, answersFor, sighting, sightings, Contained, Exact, EveryCall, Demand2, Stands, Carry, Demand3}
 use Rattle.session.proofs.Opening.{opened, refused-opening}
 use Rattle.admission.proofs.FreshSessions.{fresh-sound, zeros-unsound}
-use Rattle.setup.specs.Sensor.{sensorOf}
-use Rattle.feeding.proofs.BySetup.{told-datagram}
-use Rattle.feeding.proofs.Refinement.{SafeOf}
+use Rattle.admission.proofs.TenLaws.{sound-ten, ten-sound, fails-ten}
+use Rattle.feeding.proofs.Refinement.{SafeOf, session-sound}
 use Rattle.feeding.proofs.HistoryInvariant.{history-invariant}
 use Rattle.feeding.proofs.Agreement.{Like, StateRun, run-of-states, run-of-sessions}
-use Rattle.feeding.proofs.EachCall.{not-refused, call-kept}
+use Rattle.feeding.proofs.EachCall.{not-refused, told-handed, told-refused, call-kept}
+use Rattle.feeding.proofs.CallCases.{call-hands, call-waits}
+use Rattle.feeding.proofs.DatagramLaws.{total-told, exact-told}
 use Rattle.feeding.proofs.OneLength.{undecided-held, handed-last, empty-call}
 use Rattle.feeding.proofs.CallParts.{fed-unsound, fed-over, fed-past}
 use Rattle.feeding.proofs.ContainedAt.{carried-datagrams, contained-at}
-use Rattle.feeding.proofs.AxisAt.{after-ruled, axisThen, total-then, double-then, then-bound, sighting-at, sightings-length, independent}
+use Rattle.feeding.proofs.AxisAt.{after-ruled, axisThen, total-then, then-bound, sighting-at, sightings-length, independent}
 
 module _ (u : Setup) (ok : rulingOn u ≡ Accepted) where
   -- the session that opening gives is that of the fresh state
@@ -127,49 +124,34 @@ module _ (u : Setup) (ok : rulingOn u ≡ Accepted) where
           ap (λ (s : Session). s .fed) is-session,
         )
 
-    -- ---- doubles
+    -- ---- what comes back with the datagram at a place
 
     module _ (es : List (List ℕ)) (a : Among (isDatagram u) (streamOf u ps) es) (i : ℕ) (l : i < length es) (group axis : ℕ) (h : group < 3) (k : axis < 3) where
       -- the answer at the place, and the axis in it
       answer : getD os i noDatagram ≡ getD (answersFor u es) i noDatagram
       answer = ap (λ (l : List Datagram). getD l i noDatagram) (answers es a)
 
-      small : natAbs (axisThen u group axis ok h k es i .total) ≤ 2 ^ 53
-      small = omega (arith, then-bound u group axis ok h k es i l, few es a)
+      abbrev d : List ℕ
+      d = getD es i []
+
+      abbrev before : History
+      before = carriedAfter (consumer u) noHistory (take i es)
 
       total-in : totalAt (getD os i noDatagram .totals) group axis ≡ totalOf (axisThen u group axis ok h k es i)
       total-in = ap (λ (o : Datagram). totalAt (o .totals) group axis) answer ∙ total-then u group axis ok h k es i l
 
-      double-in :
-          doubleAt (getD os i noDatagram .doubles) group axis ≡ totalDouble (axisThen u group axis ok h k es i) (shiftIn (sensorOf u .shifts) group)
-      double-in = ap (λ (o : Datagram). doubleAt (o .doubles) group axis) answer ∙ double-then u group axis ok h k es i l
+      same-total : axisAt (steps (consumer u) before d .axes) group axis .total ≡ axisThen u group axis ok h k es i .total
+      same-total =
+          ap (λ (x : Total). x .steps)
+          (sym (total-told u ok before d group axis h k)
+          ∙ sym (ap (λ (o : Datagram). totalAt (o .totals) group axis) (told-at (consumer u) noHistory es i noDatagram l))
+          ∙ total-then u group axis ok h k es i l)
 
-      total-value : TotalExact u group axis (getD os i noDatagram)
-      total-value =
-          let x = axisThen u group axis ok h k es i in
-          subst (λ (f : Float). HasValue f (negative (totalAt (getD os i noDatagram .totals) group axis .steps)) (natAbs (totalAt (getD os i noDatagram .totals) group axis .steps)) (2 ^ shiftOf u group)) (sym double-in)
-          (subst (λ (z : ℤ). HasValue (totalDouble x (shiftIn (sensorOf u .shifts) group)) (negative z) (natAbs z) (2 ^ shiftOf u group))
-          (sym (ap (λ (y : Total). y .steps) total-in))
-          (accepted-total u ok x group h small))
-
-      abbrev d : List ℕ
-      d = getD es i []
-
-      abbrev given : Values
-      given = valuesFor (groupValues (sensorOf u .units) (sensorOf u .shifts) (fieldsOf (u .identifier) d .readings)) group
-
-      values-in : valuesFor (getD os i noDatagram .values) group ≡ given
-      unfolding datagramWith
-      values-in =
-          ap (λ (o : Datagram). valuesFor (o .values) group)
-          (answer
-          ∙ told-at (consumer u) noHistory es i noDatagram l
-          ∙ told-datagram u ok _ (carriedAfter (consumer u) noHistory (take i es)) d)
-
-      reading-small : natAbs (sighting u group axis d .reading) ≤ 2 ^ 31
-      reading-small =
-          let b = datagram-parts u d (among-each a i l) .0 in
-          omega (arith, abs-of-range (sighting u group axis d .reading) (fields-fit (u .identifier) d b .readings group axis))
+      exact-at : Exact u d (getD os i noDatagram) group axis
+      exact-at =
+          subst (λ (o : Datagram). Exact u d o group axis) (sym (answer ∙ told-at (consumer u) noHistory es i noDatagram l))
+          (exact-told u ok before d group axis h k (among-each a i l)
+          (omega (arith, ap natAbs same-total, then-bound u group axis ok h k es i l, few es a)))
 
       total-ruled :
           totalAt (getD os i noDatagram .totals) group axis
@@ -180,17 +162,6 @@ module _ (u : Setup) (ok : rulingOn u ≡ Accepted) where
           ∙ ap totalOf
           (after-ruled (keeps u group) (take (suc i) s)
           (omega (arith, few es a, length-take-le (suc i) s (omega (arith, sightings-length u group axis es)))))
-
-      exact-at : Exact u es i (getD os i noDatagram) group axis
-      exact-at =
-          record {
-            unit = ap unitNumberIn values-in ∙ accepted-unit u ok (fieldsOf (u .identifier) d .readings) group h;
-            value =
-                subst (λ (v : Values). HasValue (getD (doublesIn v) axis plusZero) (negative (sighting u group axis d .reading)) (natAbs (sighting u group axis d .reading)) (2 ^ shiftOf u group)) (sym values-in)
-                (accepted-value u ok (fieldsOf (u .identifier) d .readings) group h axis k reading-small);
-            total = total-ruled;
-            double = total-value;
-          }
 
       -- ---- the change of the true value
 
@@ -233,7 +204,7 @@ module _ (u : Setup) (ok : rulingOn u ≡ Accepted) where
                 near =
                     subst (λ (z : ℤ). natAbs (z *ℤ pos fine -ℤ (getD ts (fitBefore ss i) (pos 0) -ℤ getD ts 0 (pos 0))) < fine) (sym steps)
                     (stands .near);
-                double = total-value;
+                double = exact-at .double;
               },
             )
 
@@ -270,7 +241,7 @@ module _ (u : Setup) (ok : rulingOn u ≡ Accepted) where
   pub demand3 : Demand3 u
   demand3 =
       record {
-        opened = ap (λ (o : Opened). o .answer) (opened u ok);
+        opened = ap (λ (o : Opened). rulingNumber (o .answer)) (opened u ok);
         fed = a-run;
         once = λ c c′. one-run c c′;
         reported = λ c. (
@@ -308,12 +279,22 @@ module _ (u : Setup) (ok : rulingOn u ≡ Accepted) where
         ap heldBytes (is-session c) ∙ padded-front 64 (length l) l refl ∙ delivered c .held,
       )
 
+  -- the session at the end is that of the state at the end
+  ended :
+      {ps : List (List ℕ)} {os : List Datagram} {rs : List Report} {t : Session} → FedInTurn u ps os rs t → PassesTen t × (t .setup ≡ u)
+  unfolding end-state
+  ended {t = t} c = (
+    sound-ten t (ap isSound (is-session c) ∙ session-sound u ok (end-state c) (state-run c .1 .safe)),
+    ap (λ (s : Session). s .setup) (is-session c),
+  )
+
   pub demand2 : Demand2 u
   demand2 =
       let bare-end = scan-bare (rulesOf u) (lawful u ok) (prompt u ok) in
       record {
-        opened = ap (λ (o : Opened). isSound (o .session)) (opened u ok) ∙ fresh-sound u ok;
+        opened = sound-ten (opening u .session) (ap (λ (o : Opened). isSound (o .session)) (opened u ok) ∙ fresh-sound u ok);
         fed = a-run;
+        ended = λ c. ended c;
         parted =
             λ v. (
               scan (verdictOf u) v .datagrams,
@@ -322,8 +303,11 @@ module _ (u : Setup) (ok : rulingOn u ≡ Accepted) where
             );
         handed-out = λ c es a. answers c es a;
         contained =
-            λ c es a i l. subst (Contained u es i) (sym (ap (λ (os : List Datagram). getD os i noDatagram) (answers c es a))) (contained-at u ok es i l);
+            λ c es a i l.
+            subst (Contained u (eqb i 0) (fieldsOf (u .identifier) (getD es (i - 1) []) .counter) (getD es i []))
+            (sym (ap (λ (os : List Datagram). getD os i noDatagram) (answers c es a))) (contained-at u ok es i l);
         exact = λ c es a i l group axis h k. exact-at c es a i l group axis h k;
+        totals = λ c es a i l group axis h k. total-ruled c es a i l group axis h k;
         independent = λ group axis h k ds es e i. independent u group axis ok h k ds es e i;
         bytes = λ c. (fed-stream c, scanned c .0, scanned c .1);
       }
@@ -332,10 +316,10 @@ module _ (u : Setup) (ok : rulingOn u ≡ Accepted) where
 pub one-length : OneLength
 one-length =
     record {
-      none-taken = λ s e h. empty-call s e h;
-      held-undecided = λ s e. undecided-held s e;
-      last-byte = λ s p e q. handed-last s e p q;
-      counted = λ u ok c. (counted u ok c, bytes-sum u ok c);
+      none-taken = λ s t h. empty-call s (ten-sound s t) h;
+      held-undecided = λ s t. undecided-held s (ten-sound s t);
+      last-byte = λ s t p q. handed-last s (ten-sound s t) p (told-handed (feedOf s p .datagram) (feedOf s p .answer) q);
+      counted = λ u e c. let ok = number-accepted u e in (counted u ok c, bytes-sum u ok c);
       unfed = λ c. skip c;
     }
 
@@ -343,12 +327,15 @@ one-length =
 pub every-call : EveryCall
 every-call =
     record {
-      kept = λ s e p. call-kept s e p;
+      kept = λ s t p. call-kept s (ten-sound s t) p;
+      hands = λ s t p q. call-hands s (ten-sound s t) p q;
+      waits = λ s t p q. call-waits s (ten-sound s t) p q;
       one-length = one-length;
-      ten = λ s p e. fed-unsound s p e;
-      eleven = λ s p e h. fed-over s p e h;
-      twelve = λ s p e h k. fed-past s p e h k;
-      no-other = λ s p e h k n q. not-refused s p e h k n q;
+      ten = λ s p f. fed-unsound s p (fails-ten s f);
+      eleven = λ s p t h. fed-over s p (ten-sound s t) h;
+      twelve = λ s p t h k. fed-past s p (ten-sound s t) h k;
+      no-other = λ s p t h k n q. not-refused s p (ten-sound s t) h k n (told-refused (feedOf s p .datagram) (feedOf s p .answer) q);
       refused-opening =
-          λ u e p. fed-unsound (opening u .session) p (ap (λ (o : Opened). isSound (o .session)) (refused-opening u e) ∙ zeros-unsound);
+          λ u e p.
+          fed-unsound (opening u .session) p (ap (λ (o : Opened). isSound (o .session)) (refused-opening u (number-refused u e)) ∙ zeros-unsound);
     }

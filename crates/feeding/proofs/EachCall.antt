@@ -1,30 +1,34 @@
 -- One call of feed: the session that it returns, and what is refused.
 -- Assumes nothing.
-use Prim.Native.Nat.{ℕ, _+_, _*_, _≤_}
+use Prim.Native.Nat.{ℕ, _+_, _-_, _*_, _≤_}
 use mathlib.Core.Path.{_≡_, refl, sym, ap, _∙_, subst}
 use mathlib.Core.Bool.{true}
 use mathlib.Core.List.{List}
 use native.Mathlib.Nat.{add-zero}
 use native.Mathlib.Omega.{arith}
-use lib.ListN.{length}
+use lib.ListN.{length, replicate, length-append, length-replicate}
 use Rattle.setup.specs.Setup.{rulingOn, lengthOf}
 use Rattle.setup.specs.declared.Setup.{Setup}
 use Rattle.setup.specs.declared.Ruling.the-variants.{Accepted}
+use Rattle.setup.proofs.Refusals.{accepted-length}
 use Rattle.scan.specs.Calls as calls
 use Rattle.scan.specs.Calls.{Fed}
 use Rattle.scan.specs.Carry.{carrying, feedSession}
 use Rattle.scan.proofs.CallsLaws.{feed-made, no-refusal}
 use Rattle.scan.proofs.CarryLaws.{feed-fed, reply-refused}
 use Rattle.search.specs.Search.{limitsOf, rulesOf, verdictOf}
+use Rattle.search.proofs.Datagrams.{lawful}
 use Rattle.admission.specs.Admission.{isSound}
 use Rattle.session.specs.declared.Session.{Session}
 use Rattle.feeding.specs.declared.Datagram.{Datagram}
-use Rattle.feeding.specs.declared.Answer.the-variants.{Refused}
+use Rattle.feeding.specs.declared.Answer.{Answer}
+use Rattle.feeding.specs.declared.Answer.the-variants.{Datagram as HandedOut, Waiting, Refused}
 use Rattle.feeding.specs.declared.Reply.{Reply}
-use Rattle.feeding.specs.Feed.{consumer, SessionState, stateOf, replyBy, feedOf}
+use Rattle.feeding.specs.Feed.{consumer, SessionState, stateOf, sessionOf, replyBy, feedOf, answerOf}
 use Rattle.feeding.specs.Promises.{CallKept}
 use Rattle.admission.proofs.Soundness.{sound-facts}
-use Rattle.feeding.proofs.Refinement.{state-safe, session-sound}
+use Rattle.admission.proofs.TenLaws.{sound-ten}
+use Rattle.feeding.proofs.Refinement.{SafeOf, state-safe, session-sound}
 use Rattle.feeding.proofs.CallParts.{fed-by}
 use Rattle.feeding.proofs.Agreement.{stateCall, on-state, call-safe}
 
@@ -47,6 +51,18 @@ not-refused s p e h k n q =
     let a = refused-by s (r .answer) (r .taken) (r .next) (ap (λ (x : Reply). x .answer) (sym f) ∙ q) in
     no-refusal (rulesOf u) (stateOf s .scan) p (reply-refused (consumer u) (stateOf s .carried) (c .answer) a)
 
+-- what an answer tells comes of its case
+module _ (o : Datagram) where
+  pub told-handed : (a : Answer) {d : Datagram} → answerOf a o ≡ calls.Answer.datagram d → a ≡ HandedOut
+  told-handed HandedOut e = refl
+  told-handed Waiting e = absurd (let z : _≡_ {A = ℕ} 0 1 = cc in omega arith)
+  told-handed (Refused n) e = absurd (let z : _≡_ {A = ℕ} 0 1 = cc in omega arith)
+
+  pub told-refused : (a : Answer) {n : ℕ} → answerOf a o ≡ calls.Answer.refused n → a ≡ Refused n
+  told-refused HandedOut e = absurd (let z : _≡_ {A = ℕ} 0 1 = cc in omega arith)
+  told-refused Waiting e = absurd (let z : _≡_ {A = ℕ} 0 1 = cc in omega arith)
+  told-refused (Refused m) {n} e = let z : m ≡ n = cc in ap Refused z
+
 -- ---- a call on a session that 10 doesn't turn down
 
 module _ (s : Session) (e : isSound s ≡ true) where
@@ -61,29 +77,37 @@ module _ (s : Session) (e : isSound s ≡ true) where
     unfolding made feedSession
     grown-by = feed-fed (rulesOf (s .setup)) _ (stateOf s .scan) p
 
-    -- what is promised of the reply
-    pub record Good (r : Reply) : Type 0 where
-      pub sound : isSound (r .session) ≡ true
-      pub setup : r .session .setup ≡ s .setup
-      pub fed : r .session .fed ≡ s .fed + r .taken
-
-    good-by : (a : calls.Answer Datagram) → made .answer ≡ a → Good (replyBy s a (made .taken) (made .next))
-    good-by (calls.Answer.datagram o) q =
-        record { sound = session-sound (s .setup) ok (made .next) (unfold made in call-safe (s .setup) ok (stateOf s) p (state-safe s e)); setup = refl; fed = grown-by }
-    good-by calls.Answer.waiting q =
-        record { sound = session-sound (s .setup) ok (made .next) (unfold made in call-safe (s .setup) ok (stateOf s) p (state-safe s e)); setup = refl; fed = grown-by }
-    good-by (calls.Answer.refused n) q = record { sound = e; setup = refl; fed = sym (add-zero (s .fed)) }
-
-    good : Good (feedOf s p)
-    good = subst Good (sym (on-state s e p)) (unfold made in good-by (made .answer) refl)
-
-    pub call-kept : CallKept s p
-    call-kept =
-        let r = feedOf s p .session in
-        let F = sound-facts r (good .sound) in
+    -- a session of a state that is sound: what is promised of it
+    kept-by : (r : Reply) → isSound (r .session) ≡ true → r .session .setup ≡ s .setup → (length (s .held) ≡ 64 → length (r .session .held) ≡ 64)
+        → r .session .fed ≡ s .fed + r .taken → CallKept s r
+    kept-by r sound same long fed =
+        let t = r .session in
         record {
-          sound = good .sound;
-          setup = good .setup;
-          fed = good .fed;
-          sum = ap (λ (u : Setup). lengthOf u * r .history .datagrams .0 + r .passed + r .count) (sym (good .setup)) ∙ F .sum;
+          sound = sound-ten t sound;
+          setup = same;
+          long = long;
+          fed = fed;
+          sum = ap (λ (u : Setup). lengthOf u * t .history .datagrams .0 + t .passed + t .count) (sym same) ∙ sound-facts t sound .sum;
         }
+
+    -- of the state behind the call
+    safe-then : SafeOf (s .setup) (made .next)
+    unfolding made
+    safe-then = call-safe (s .setup) ok (stateOf s) p (state-safe s e)
+
+    sound-then : isSound (sessionOf (s .setup) (made .next)) ≡ true
+    sound-then = session-sound (s .setup) ok (made .next) safe-then
+
+    long-then : length (sessionOf (s .setup) (made .next) .held) ≡ 64
+    long-then =
+        let l = made .next .scan .held in
+        let n = lawful (s .setup) ok .holds .shorter l (safe-then .scan .ruled) in
+        omega (arith, length-append l (replicate (64 - length l) 0), length-replicate {A = ℕ} (64 - length l) 0, accepted-length (s .setup) ok .1)
+
+    kept-of : (a : calls.Answer Datagram) → made .answer ≡ a → CallKept s (replyBy s a (made .taken) (made .next))
+    kept-of (calls.Answer.datagram o) q = kept-by (replyBy s (calls.Answer.datagram o) (made .taken) (made .next)) sound-then refl (λ x. long-then) grown-by
+    kept-of calls.Answer.waiting q = kept-by (replyBy s calls.Answer.waiting (made .taken) (made .next)) sound-then refl (λ x. long-then) grown-by
+    kept-of (calls.Answer.refused n) q = kept-by (replyBy s (calls.Answer.refused n) (made .taken) (made .next)) e refl (λ x. x) (sym (add-zero (s .fed)))
+
+    pub call-kept : CallKept s (feedOf s p)
+    call-kept = subst (CallKept s) (sym (on-state s e p)) (unfold made in kept-of (made .answer) refl)

@@ -6,7 +6,9 @@ pub mod HistoryInvariant
 pub mod Agreement
 pub mod EachCall
 pub mod OneLength
+pub mod DatagramLaws
 pub mod ContainedAt
 pub mod AxisAt
+pub mod CallCases
 pub mod Demands
 pub mod WorkedExample

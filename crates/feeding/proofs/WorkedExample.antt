@@ -18,7 +18,7 @@ use Rattle.setup.specs.declared.Setup.{Setup}
 use Rattle.setup.specs.declared.Ruling.the-variants.{Accepted}
 use Rattle.wire.specs.Fields.{fieldsOfPart, contentsOf, fieldsOf}
 use Rattle.acceptance.specs.Acceptable.{checkRight, endingRight, acceptableIn, acceptable}
-use Rattle.gaps.specs.Gaps.{datagrams as count, elapsed, missedAfter, gapAt}
+use Rattle.gaps.specs.Gaps.{datagrams as count, elapsed, missedAfter, missedAt}
 use Rattle.gaps.specs.declared.Gap.the-variants.{Missed}
 use Rattle.motion.specs.Status.{unfit}
 use Rattle.motion.specs.Totals.{keeps, totalAt, fitReadings, fitBefore, readingOf, CloseFrom, Close}
@@ -126,5 +126,5 @@ example-total c = example-stands c .exact
 
 -- at rate 1000 a datagram comes every 2 samples: the first has no gap, the third comes one datagram late
 example-gaps : map (λ (o : Datagram). o .gap) (answersFor example datagrams) ≡ Missed (count 0) ∷ Missed (count 0) ∷ Missed (count 1) ∷ []
-unfolding told tell historyAfter historyNext datagramWith gapAt elapsed missedAfter contentsOf sensorOf rateOf unitOf fieldsOf fieldsOfPart partsAt rowAt partsOf bigEndian
+unfolding told tell historyAfter historyNext datagramWith missedAt elapsed missedAfter contentsOf sensorOf rateOf unitOf fieldsOf fieldsOfPart partsAt rowAt partsOf bigEndian
 example-gaps = refl

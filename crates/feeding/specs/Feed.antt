@@ -2,6 +2,7 @@
 use Prim.Native.Nat.{ℕ, _*_}
 use mathlib.Core.Bool.{Bool, _&&_}
 use mathlib.Core.List.{List, [], _∷_, map}
+use mathlib.Core.Option.{Option, none, some}
 use lib.Dec.{eqb}
 use lib.IntN.{ℤ, pos}
 use lib.ListN.{length, getD}
@@ -176,6 +177,12 @@ abbrev pub answerOf : Answer → Datagram → calls.Answer Datagram
 answerOf HandedOut o = calls.Answer.datagram o
 answerOf Waiting o = calls.Answer.waiting
 answerOf (Refused n) o = calls.Answer.refused n
+
+-- the number of a refusal, none where a datagram was handed out or the piece ended
+abbrev pub answerNumber : Answer → Option ℕ
+answerNumber HandedOut = none
+answerNumber Waiting = none
+answerNumber (Refused n) = some n
 
 abbrev pub callBy : Reply → Fed Session Datagram
 callBy r = record { answer = answerOf (r .answer) (r .datagram); taken = r .taken; next = r .session }

@@ -1,35 +1,35 @@
--- What the request asks of feeding (00-mission, demands 2 and 3; 01, How firmly it is promised, Totals), as types over the rules.
--- proofs/Demands.antt has a term of Demand2 and of Demand3 for every setup that is not refused.
+-- What the request asks of feeding (00-mission, demands 2 and 3; 01, How firmly it is promised, Totals), as types over the rules:
+-- every call on any session; and, of a setup, lists of pieces fed in turn.
 use Prim.Native.Nat.{ℕ, suc, _+_, _-_, _*_, _^_, _≤_, _<_}
-use mathlib.Core.Bool.{true, false, cond}
-use mathlib.Core.List.{List, [], _∷_, map}
+use mathlib.Core.Bool.{Bool, true, cond}
+use mathlib.Core.List.{List, [], _∷_, _++_, map}
+use mathlib.Core.Option.{none, some}
 use mathlib.Core.Path.{_≡_}
 use lib.Dec.{eqb}
 use lib.IntN.{ℤ, pos, natAbs, _-ℤ_, _*ℤ_}
 use lib.Ieee.Exact.{HasValue}
-use lib.ListN.{length, take, getD}
+use lib.ListN.{length, take, drop, getD}
 use Rattle.integers.specs.Rounding.{floor}
-use Rattle.setup.specs.Setup.{rulingOn, lengthOf}
+use Rattle.setup.specs.Setup.{rulingNumber, setupNumber, lengthOf}
 use Rattle.setup.specs.declared.Setup.{Setup}
-use Rattle.setup.specs.declared.Ruling as ruling
-use Rattle.setup.specs.declared.Ruling.the-variants.{Accepted}
 use Rattle.wire.specs.Fields.{fieldsOf, besidesReadings}
-use Rattle.gaps.specs.Gaps.{gapAt}
+use Rattle.gaps.specs.Gaps.{missedIn, missedAt}
 use Rattle.motion.specs.Status.{flagged}
-use Rattle.motion.specs.Totals.{noAxis, Sighting, keeps, seen, totalAt, fitReadings, fitBefore, readingOf, Close, totalOf, after}
+use Rattle.motion.specs.Totals.{noAxis, Sighting, axisStep, keeps, seen, axisAt, totalAt, fitReadings, fitBefore, readingOf, Close, totalOf, after}
 use Rattle.doubles.specs.Doubles.{negative, plusZero, unitNumberIn, doublesIn, valuesFor, doubleAt}
-use Rattle.scan.specs.Scan.{scan}
-use Rattle.scan.specs.Calls.{Report}
-use Rattle.scan.specs.Stream.{stream, reports, NoTen, Among}
+use Rattle.scan.specs.Scan.{scan, Undecided}
+use Rattle.scan.specs.Calls.{datagram, waiting, refused, Report}
+use Rattle.scan.specs.Stream.{stream, reports, NoTen, Begins, Among}
 use Rattle.scan.specs.Carry.{told}
 use Rattle.search.specs.Search.{isDatagram, limitsOf, verdictOf}
-use Rattle.history.specs.History.{noHistory}
+use Rattle.history.specs.History.{noHistory, awaitsFirst}
 use Rattle.session.specs.Session.{opening}
-use Rattle.admission.specs.Admission.{heldBytes, isSound}
+use Rattle.admission.specs.Admission.{heldBytes}
+use Rattle.admission.specs.SoundSession.{PassesTen}
 use Rattle.session.specs.declared.Session.{Session}
 use Rattle.feeding.specs.declared.Datagram.{Datagram}
-use Rattle.feeding.specs.declared.Answer.the-variants.{Refused}
-use Rattle.feeding.specs.Feed.{consumer, noDatagram, refusal, feedOf, Calls}
+use Rattle.feeding.specs.declared.Reply.{Reply}
+use Rattle.feeding.specs.Feed.{consumer, noDatagram, refusal, feedOf, call, Calls}
 use Rattle.feeding.specs.OneLength.{OneLength}
 
 -- ---- what the demands speak of
@@ -72,62 +72,108 @@ TotalExact u group axis o =
     HasValue (doubleAt (o .doubles) group axis) (negative (totalAt (o .totals) group axis .steps)) (natAbs (totalAt (o .totals) group axis .steps))
     (2 ^ shiftOf u group)
 
--- ---- demand 2
+-- ---- what comes back with a datagram
 
--- one call on a session that 10 doesn't turn down
-pub record CallKept (s : Session) (p : List ℕ) : Type 0 where
-  -- the session that comes back isn't turned down by 10 either, and is of the same setup
-  pub sound : isSound (feedOf s p .session) ≡ true
-  pub setup : feedOf s p .session .setup ≡ s .setup
+-- in the answer o, of the datagram d: its fields, how many channels its statuses flag, and what was missed between it and the one before, whose
+-- counter was `previous`; first: whether it counts as a first one
+pub record Contained (u : Setup) (first : Bool) (previous : ℕ) (d : List ℕ) (o : Datagram) : Type 0 where
+  pub readings : o .gyro ∷ o .accelerometer ∷ o .inclinometer ∷ [] ≡ fieldsOf (u .identifier) d .readings
+  pub fields : o .fields ≡ besidesReadings (fieldsOf (u .identifier) d)
+  pub flags : o .flagged ≡ map flagged (fieldsOf (u .identifier) d .statuses)
+  pub gap : missedIn (o .gap) ≡ missedAt (u .rate) first previous (fieldsOf (u .identifier) d .counter)
+
+-- of an axis of a group: the group's unit, and each double its reading, or its total, over 2 ^ shift, without any rounding
+pub record Exact (u : Setup) (d : List ℕ) (o : Datagram) (group axis : ℕ) : Type 0 where
+  pub unit : unitNumberIn (valuesFor (o .values) group) ≡ getD (u .units) group 0
+  pub value :
+      HasValue (getD (doublesIn (valuesFor (o .values) group)) axis plusZero) (negative (sighting u group axis d .reading))
+      (natAbs (sighting u group axis d .reading)) (2 ^ shiftOf u group)
+  pub double : TotalExact u group axis o
+
+-- ---- every call
+
+-- a call on a session that 10 doesn't turn down, of which r comes back
+pub record CallKept (s : Session) (r : Reply) : Type 0 where
+  -- the session that comes back isn't turned down by 10 either, and is of the same setup; its array has as many bytes as every session's
+  pub sound : PassesTen (r .session)
+  pub setup : r .session .setup ≡ s .setup
+  pub long : length (s .held) ≡ 64 → length (r .session .held) ≡ 64
   -- bytes fed are the bytes taken, and = datagram length × datagrams + bytes passed over + bytes held
-  pub fed : feedOf s p .session .fed ≡ s .fed + feedOf s p .taken
-  pub sum :
-      lengthOf (s .setup) * feedOf s p .session .history .datagrams .0 + feedOf s p .session .passed + feedOf s p .session .count
-      ≡ feedOf s p .session .fed
+  pub fed : r .session .fed ≡ s .fed + r .taken
+  pub sum : lengthOf (s .setup) * r .session .history .datagrams .0 + r .session .passed + r .session .count ≡ r .session .fed
+
+-- one that hands out a datagram
+pub record CallHands (s : Session) (p : List ℕ) (r : Reply) : Type 0 where
+  -- the bytes held and those taken are the bytes passed over, the datagram, and the bytes held afterwards
+  pub over : List ℕ
+  pub found : List ℕ
+  pub bytes : heldBytes s ++ take (r .taken) p ≡ over ++ (found ++ heldBytes (r .session))
+  pub taken : r .taken ≤ length p
+  pub passed : r .session .passed ≡ s .passed + length over
+  -- it is acceptable, and at none of the bytes passed over does an acceptable one begin in the bytes held and the piece
+  pub acceptable : isDatagram (s .setup) found ≡ true
+  pub none-begins : (k : ℕ) → k < length over → Begins (isDatagram (s .setup)) (drop k (heldBytes s ++ p)) → ⊥
+  -- its own fields, what was missed since the datagram before it, and exact doubles
+  pub contained : Contained (s .setup) (awaitsFirst (s .history)) (s .history .previous) found (r .datagram)
+  pub exact : (group axis : ℕ) → group < 3 → axis < 3 → Exact (s .setup) found (r .datagram) group axis
+  -- the session counts it and keeps its counter
+  pub counted : r .session .history .datagrams .0 ≡ s .history .datagrams .0 + 1
+  pub previous : r .session .history .previous ≡ fieldsOf (s .setup .identifier) found .counter
+  -- it moves each axis that keeps a total on by the rule for one axis, the others being 0 and not begun; its totals are those of the axes then
+  pub axes :
+      (group axis : ℕ) → group < 3 → axis < 3
+      → axisAt (r .session .history .axes) group axis
+      ≡ cond (keeps (s .setup) group) (axisStep (axisAt (s .history .axes) group axis) (sighting (s .setup) group axis found)) noAxis
+  pub totals :
+      (group axis : ℕ) → group < 3 → axis < 3 → totalAt (r .datagram .totals) group axis ≡ totalOf (axisAt (r .session .history .axes) group axis)
+
+-- one that waits for more
+pub record CallWaits (s : Session) (p : List ℕ) (r : Reply) : Type 0 where
+  -- the whole piece is taken: the bytes held and the piece are the bytes passed over and the bytes held afterwards
+  pub over : List ℕ
+  pub bytes : heldBytes s ++ p ≡ over ++ heldBytes (r .session)
+  pub taken : r .taken ≡ length p
+  pub passed : r .session .passed ≡ s .passed + length over
+  -- at none of those passed over does an acceptable datagram begin, and nothing is decided yet of those held
+  pub none-begins : (k : ℕ) → k < length over → Begins (isDatagram (s .setup)) (drop k (heldBytes s ++ p)) → ⊥
+  pub undecided : Undecided (verdictOf (s .setup)) (heldBytes (r .session))
+  -- what the session keeps of the datagrams is as it was, and zeros stand in the datagram's place
+  pub history : r .session .history ≡ s .history
+  pub zeros : r .datagram ≡ noDatagram
 
 -- every call, on any session and any piece
 pub record EveryCall : Type 0 where
   -- no session that a call returns is turned down by 10, if the one that it was given isn't
-  pub kept : (s : Session) → isSound s ≡ true → (p : List ℕ) → CallKept s p
+  pub kept : (s : Session) → PassesTen s → (p : List ℕ) → CallKept s (feedOf s p)
+  -- where a datagram is handed out, and where the call waits
+  pub hands :
+      (s : Session) → PassesTen s → (p : List ℕ) → call s p .answer ≡ datagram (feedOf s p .datagram) → CallHands s p (feedOf s p)
+  pub waits : (s : Session) → PassesTen s → (p : List ℕ) → call s p .answer ≡ waiting → CallWaits s p (feedOf s p)
   -- what holds only while all datagrams have one length
   pub one-length : OneLength
   -- a call is refused by 10, else by 11, else by 12, and by nothing else; a refusal takes no bytes and returns the session as given
-  pub ten : (s : Session) (p : List ℕ) → isSound s ≡ false → feedOf s p ≡ refusal s 10
-  pub eleven : (s : Session) (p : List ℕ) → isSound s ≡ true → limitsOf (s .setup) .piece < length p → feedOf s p ≡ refusal s 11
+  pub ten : (s : Session) (p : List ℕ) → (PassesTen s → ⊥) → feedOf s p ≡ refusal s 10
+  pub eleven : (s : Session) (p : List ℕ) → PassesTen s → limitsOf (s .setup) .piece < length p → feedOf s p ≡ refusal s 11
   pub twelve :
-      (s : Session) (p : List ℕ) → isSound s ≡ true → length p ≤ limitsOf (s .setup) .piece → limitsOf (s .setup) .session < s .fed + length p
+      (s : Session) (p : List ℕ) → PassesTen s → length p ≤ limitsOf (s .setup) .piece → limitsOf (s .setup) .session < s .fed + length p
       → feedOf s p ≡ refusal s 12
   pub no-other :
-      (s : Session) (p : List ℕ) → isSound s ≡ true → length p ≤ limitsOf (s .setup) .piece → s .fed + length p ≤ limitsOf (s .setup) .session
-      → (n : ℕ) → feedOf s p .answer ≡ Refused n → ⊥
+      (s : Session) (p : List ℕ) → PassesTen s → length p ≤ limitsOf (s .setup) .piece → s .fed + length p ≤ limitsOf (s .setup) .session
+      → (n : ℕ) → call s p .answer ≡ refused n → ⊥
   -- what a refused opening gives back is turned down by 10
   pub refused-opening :
-      (u : Setup) {n : ℕ} → rulingOn u ≡ ruling.the-variants.Refused n → (p : List ℕ) → feedOf (opening u .session) p ≡ refusal (opening u .session) 10
+      (u : Setup) {n : ℕ} → setupNumber u ≡ some n → (p : List ℕ) → feedOf (opening u .session) p ≡ refusal (opening u .session) 10
 
--- what comes back with the datagram at a place of es, in the answer o: its fields, and the gap to the datagram before it
-pub record Contained (u : Setup) (es : List (List ℕ)) (i : ℕ) (o : Datagram) : Type 0 where
-  pub readings : o .gyro ∷ o .accelerometer ∷ o .inclinometer ∷ [] ≡ fieldsOf (u .identifier) (getD es i []) .readings
-  pub fields : o .fields ≡ besidesReadings (fieldsOf (u .identifier) (getD es i []))
-  pub flags : o .flagged ≡ map flagged (fieldsOf (u .identifier) (getD es i []) .statuses)
-  pub gap :
-      o .gap ≡ gapAt (u .rate) (eqb i 0) (fieldsOf (u .identifier) (getD es (i - 1) []) .counter) (fieldsOf (u .identifier) (getD es i []) .counter)
-
--- the total of an axis at that place: by the rule for one axis over what it sees up to there, if it keeps one, else 0 and not begun;
--- each double is its reading, or its total, over 2 ^ shift, without any rounding
-pub record Exact (u : Setup) (es : List (List ℕ)) (i : ℕ) (o : Datagram) (group axis : ℕ) : Type 0 where
-  pub unit : unitNumberIn (valuesFor (o .values) group) ≡ getD (u .units) group 0
-  pub value :
-      HasValue (getD (doublesIn (valuesFor (o .values) group)) axis plusZero) (negative (sighting u group axis (getD es i []) .reading))
-      (natAbs (sighting u group axis (getD es i []) .reading)) (2 ^ shiftOf u group)
-  pub total :
-      totalAt (o .totals) group axis
-      ≡ totalOf (cond (keeps u group) (after noAxis (take (suc i) (sightings u group axis es))) noAxis)
-  pub double : TotalExact u group axis o
+-- ---- demand 2
 
 pub record Demand2 (u : Setup) : Type 0 where
   -- the session that opening gives isn't turned down by 10, and every list of pieces can be fed to it in turn
-  pub opened : isSound (opening u .session) ≡ true
+  pub opened : PassesTen (opening u .session)
   pub fed : (ps : List (List ℕ)) → CanBeFed u ps
+  -- the session at the end isn't turned down by 10 either, and is of the same setup
+  pub ended :
+      {ps : List (List ℕ)} {os : List Datagram} {rs : List Report} {t : Session} → FedInTurn u ps os rs t
+      → PassesTen t × (t .setup ≡ u)
   -- every stream is acceptable datagrams, whole and in order, among bytes at which none begins, in one way only
   pub parted :
       (v : List ℕ)
@@ -135,15 +181,24 @@ pub record Demand2 (u : Setup) : Type 0 where
   -- these are handed out, no more and no fewer
   pub handed-out :
       {ps : List (List ℕ)} {os : List Datagram} {rs : List Report} {t : Session} → FedInTurn u ps os rs t → HandsOut u ps os
-  -- its own fields, the gap to the one before it, its totals, and exact doubles
+  -- its own fields, what was missed since the one before it, and exact doubles
   pub contained :
       {ps : List (List ℕ)} {os : List Datagram} {rs : List Report} {t : Session} → FedInTurn u ps os rs t
-      → (es : List (List ℕ)) → Among (isDatagram u) (streamOf u ps) es → (i : ℕ) → i < length es → Contained u es i (getD os i noDatagram)
+      → (es : List (List ℕ)) → Among (isDatagram u) (streamOf u ps) es
+      → (i : ℕ) → i < length es
+      → Contained u (eqb i 0) (fieldsOf (u .identifier) (getD es (i - 1) []) .counter) (getD es i []) (getD os i noDatagram)
   pub exact :
       {ps : List (List ℕ)} {os : List Datagram} {rs : List Report} {t : Session} → FedInTurn u ps os rs t
       → (es : List (List ℕ)) → Among (isDatagram u) (streamOf u ps) es
       → (i : ℕ) → i < length es → (group axis : ℕ) → group < 3 → axis < 3
-      → Exact u es i (getD os i noDatagram) group axis
+      → Exact u (getD es i []) (getD os i noDatagram) group axis
+  -- the total of an axis there: by the rule for one axis over what it sees up to there, if it keeps one, else 0 and not begun
+  pub totals :
+      {ps : List (List ℕ)} {os : List Datagram} {rs : List Report} {t : Session} → FedInTurn u ps os rs t
+      → (es : List (List ℕ)) → Among (isDatagram u) (streamOf u ps) es
+      → (i : ℕ) → i < length es → (group axis : ℕ) → group < 3 → axis < 3
+      → totalAt (getD os i noDatagram .totals) group axis
+      ≡ totalOf (cond (keeps u group) (after noAxis (take (suc i) (sightings u group axis es))) noAxis)
   -- a total depends only on its own axis's readings, its group's status bytes and which datagrams were handed out
   pub independent :
       (group axis : ℕ) → group < 3 → axis < 3
@@ -173,7 +228,7 @@ pub record Carry (fine : ℕ) (ss : List Sighting) (ts : List ℤ) : Type 0 wher
 
 pub record Demand3 (u : Setup) : Type 0 where
   -- opening answers without refusal
-  pub opened : opening u .answer ≡ Accepted
+  pub opened : rulingNumber (opening u .answer) ≡ none
   -- every list of pieces can be fed in turn, and in one way only
   pub fed : (ps : List (List ℕ)) → CanBeFed u ps
   pub once :

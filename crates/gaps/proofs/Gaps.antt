@@ -1,7 +1,7 @@
 -- Laws of gaps (01, Status, doubles, gaps). Assumes nothing.
 use Prim.Native.Nat.{ℕ, zero, suc, _+_, _-_, _*_, _/_, _%_, _≤_, _<_}
 use mathlib.Core.Bool.{Bool, true, false, cond}
-use mathlib.Core.List.{[], _∷_}
+use mathlib.Core.Option.{Option, none, some}
 use mathlib.Core.Path.{_≡_, refl, ap, _∙_}
 use native.Mathlib.Nat.{div-add-mod', le-div-iff-mul-le, zero-mul, mul-mod-left, mul-div-cancel}
 use native.Mathlib.Omega.{arith}
@@ -11,7 +11,8 @@ use borrow.Author.Tests.{eqb-false, ne-eqb}
 use Rattle.integers.specs.Rounding.{residue}
 use Rattle.integers.proofs.Parts.{sub-parts}
 use Rattle.integers.proofs.Rounding.{residue-below, floor-split}
-use Rattle.gaps.specs.Gaps.{samples, missedIn, stepAt, elapsed, missedAfter, gapAt}
+use Rattle.gaps.specs.declared.Datagrams.{Datagrams}
+use Rattle.gaps.specs.Gaps.{samples, datagrams, missedIn, gapWith, stepAt, elapsed, missedAfter, missedAt}
 
 -- the samples between two counters as code has them
 modulo-bytes : (previous counter : ℕ) → previous ≤ 256 → (counter + 256 - previous) % 256 ≡ residue (pos counter -ℤ pos previous) 256
@@ -48,18 +49,22 @@ quotient-positive s d z h = by (d / s) (div-add-mod' d s)
     by zero e = let k : zero * s ≡ zero = zero-mul s in absurd (omega arith)
     by (suc q) e = omega arith
 
--- ---- the cases of a gap, by the value of each
+-- ---- what was missed, by its case
 
-pub first-none : (rate previous counter : ℕ) → missedIn (gapAt rate true previous counter) ≡ 0 ∷ []
-unfolding gapAt
+pub missed-with : (m : Option Datagrams) → missedIn (gapWith m) ≡ m
+missed-with (some n) = refl
+missed-with none = refl
+
+pub first-none : (rate previous counter : ℕ) → missedAt rate true previous counter ≡ some (datagrams 0)
+unfolding missedAt
 first-none rate previous counter = refl
 
-pub trigger-none : (first : Bool) (previous counter : ℕ) → missedIn (gapAt 0 first previous counter) ≡ 0 ∷ []
-unfolding gapAt
+pub trigger-none : (first : Bool) (previous counter : ℕ) → missedAt 0 first previous counter ≡ some (datagrams 0)
+unfolding missedAt
 trigger-none true previous counter = refl
 trigger-none false previous counter = refl
 
-exact-steps : (s d n : ℕ) → 0 < s → d ≡ (n + 1) * s → missedIn (missedAfter (samples s) (samples d)) ≡ n ∷ []
+exact-steps : (s d n : ℕ) → 0 < s → d ≡ (n + 1) * s → missedAfter (samples s) (samples d) ≡ some (datagrams n)
 unfolding missedAfter
 exact-steps s d n h e =
     let m : d % s ≡ 0 = ap (λ (x : ℕ). x % s) e ∙ mul-mod-left (n + 1) s in
@@ -67,19 +72,19 @@ exact-steps s d n h e =
     let f : n + 1 - 1 ≡ n = omega arith in
     rw (m, q, f)
 
-rest : (s d : ℕ) → (d % s ≡ 0 → ⊥) → missedIn (missedAfter (samples s) (samples d)) ≡ []
+rest : (s d : ℕ) → (d % s ≡ 0 → ⊥) → missedAfter (samples s) (samples d) ≡ none
 unfolding missedAfter
 rest s d f = rw (ne-eqb (d % s) 0 f)
 
 -- n datagrams are missed where n + 1 steps went by, and it is off step where no whole number of them did
 module _ (rate previous counter : ℕ) (h : 0 < rate) where
-  later : gapAt rate false previous counter ≡ missedAfter (stepAt rate) (elapsed previous counter)
-  unfolding gapAt
+  later : missedAt rate false previous counter ≡ missedAfter (stepAt rate) (elapsed previous counter)
+  unfolding missedAt
   later = rw (ne-eqb rate 0 (λ e. omega arith))
 
   pub missed-steps : (n : ℕ) → rate ≤ 2000 → elapsed previous counter .0 ≡ (n + 1) * (2000 / rate)
-      → missedIn (gapAt rate false previous counter) ≡ n ∷ []
-  missed-steps n k e = ap missedIn later ∙ exact-steps (2000 / rate) (elapsed previous counter .0) n (step-positive rate h k) e
+      → missedAt rate false previous counter ≡ some (datagrams n)
+  missed-steps n k e = later ∙ exact-steps (2000 / rate) (elapsed previous counter .0) n (step-positive rate h k) e
 
-  pub off-step : (elapsed previous counter .0 % (2000 / rate) ≡ 0 → ⊥) → missedIn (gapAt rate false previous counter) ≡ []
-  off-step e = ap missedIn later ∙ rest (2000 / rate) (elapsed previous counter .0) e
+  pub off-step : (elapsed previous counter .0 % (2000 / rate) ≡ 0 → ⊥) → missedAt rate false previous counter ≡ none
+  off-step e = later ∙ rest (2000 / rate) (elapsed previous counter .0) e

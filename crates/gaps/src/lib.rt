@@ -1,7 +1,7 @@
 // What lies between two datagrams (01, Status, doubles, gaps).
 ghost use mathlib.Core.Path.{_≡_};
 ghost use Prim.Native.Nat.{_<_};
-ghost use Rattle.gaps.specs.Gaps.{elapsed, missedAfter, gapBetween};
+ghost use Rattle.gaps.specs.Gaps.{elapsed, gapWith, missedAfter, gapBetween};
 use setup::Rate;
 
 // A count of internal samples, 2,000 a second.
@@ -30,7 +30,7 @@ fn elapsed(previous: u8, counter: u8) -> Samples
 // The datagrams missed in `gone` samples, with one datagram every `step` samples.
 fn missed(step: Samples, gone: Samples) -> Gap
     requires { ⌜ (0 < step .0) × (0 < gone .0) ⌝ }
-    ensures { λ r. ⌜ r ≡ missedAfter step gone ⌝ }
+    ensures { λ r. ⌜ r ≡ gapWith (missedAfter step gone) ⌝ }
 {
     let s = step.0;
     let d = gone.0;

@@ -17,7 +17,7 @@ use Rattle.setup.specs.declared.Setup.{Setup}
 use Rattle.setup.specs.declared.Ruling.the-variants.{Accepted}
 use Rattle.wire.specs.Fields.{Contents, fieldsOf}
 use Rattle.wire.proofs.FieldRanges.{Fitting, fields-fit}
-use Rattle.gaps.specs.Gaps.{datagrams, stepAt, elapsed, missedAfter, gapAt}
+use Rattle.gaps.specs.Gaps.{datagrams, gapWith, stepAt, elapsed, missedAfter, missedAt, gapAt}
 use Rattle.gaps.specs.declared.Gap.{Gap}
 use Rattle.gaps.specs.declared.Gap.the-variants.{Missed, OffStep}
 use Rattle.gaps.proofs.Gaps.{elapsed-range}
@@ -43,14 +43,14 @@ use Rattle.lines.specs.PieceParts.{nextLine, textOf}
 -- ---- a gap is a number of at most 256, or none
 
 gap-fits : (rate : ℕ) (first : Bool) (previous counter : ℕ) → MissedFits (gapAt rate first previous counter)
-unfolding gapAt missedAfter
+unfolding missedAt missedAfter
 gap-fits rate first previous counter = by (first || eqb rate 0)
   where
-    counted : (t : Bool) → MissedFits (cond t (Missed (datagrams (elapsed previous counter .0 / stepAt rate .0 - 1))) OffStep)
+    counted : (t : Bool) → MissedFits (gapWith (cond t (some (datagrams (elapsed previous counter .0 / stepAt rate .0 - 1))) none))
     counted true = omega (arith, elapsed-range previous counter .1, div-le-self (elapsed previous counter .0) (stepAt rate .0))
     counted false = tt
 
-    by : (t : Bool) → MissedFits (cond t (Missed (datagrams 0)) (missedAfter (stepAt rate) (elapsed previous counter)))
+    by : (t : Bool) → MissedFits (gapWith (cond t (some (datagrams 0)) (missedAfter (stepAt rate) (elapsed previous counter))))
     by true = omega arith
     by false = counted (eqb (elapsed previous counter .0 % stepAt rate .0) 0)
 

@@ -85,7 +85,7 @@ pub step-not-kept : (a : Axis) (d : Sighting) → keptStep false a d ≡ a
 unfolding keptStep
 step-not-kept a d = refl
 
-step-within : (a : Axis) (d : Sighting) → natAbs (a .total) ≤ 2 ^ 53 → keptStep true a d ≡ axisStep a d
+pub step-within : (a : Axis) (d : Sighting) → natAbs (a .total) ≤ 2 ^ 53 → keptStep true a d ≡ axisStep a d
 unfolding keptStep
 step-within a d h = rw (le-within (2 ^ 53) (a .total) h)
 

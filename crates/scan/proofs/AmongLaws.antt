@@ -1,18 +1,18 @@
 -- For every stream there is one and only one list of datagrams among bytes at which none begins: those of the scan,
 -- if none begins among the bytes that it holds at the end.
 -- Assumes nothing.
-use Prim.Native.Nat.{ℕ, zero, suc}
+use Prim.Native.Nat.{ℕ, zero, suc, _≤_, _<_}
 use mathlib.Core.Path.{_≡_, refl, sym, ap, _∙_, subst}
 use mathlib.Core.Bool.{true}
 use mathlib.Core.List.{List, [], _∷_, _++_, append-nil}
 use native.Mathlib.Omega.{arith}
 use lib.ListN.{length, take, drop, length-append, take-append-drop}
-use lib.Seq.{length-take-le, take-at}
-use Rattle.scan.specs.Scan.{Verdict, waits, passes, hands, Scanned, decided, scanFrom, scan, Stable}
+use lib.Seq.{length-take-le, take-at, drop-append-le}
+use Rattle.scan.specs.Scan.{Verdict, waits, passes, hands, Scanned, decided, scanFrom, scan, First, first, Stable}
 use Rattle.scan.specs.Rules.{Rules, verdict, Lawful}
 use Rattle.scan.specs.Stream.{Begins, Among, end, other, then, Bare}
 use Rattle.scan.proofs.FrontLaws.{acceptable-hands, hands-acceptable, passes-on, front-stable}
-use Rattle.scan.proofs.ScanLaws.{scan-hands}
+use Rattle.scan.proofs.ScanLaws.{scan-hands, passedIn, first-passes}
 
 module _ (R : Rules) (M : Lawful R) where
   pub stable : Stable (verdict R)
@@ -37,6 +37,14 @@ module _ (R : Rules) (M : Lawful R) where
       let p : verdict R (u ++ v) ≡ passes = passes-on (R .candidate) (R .acceptable) u v e in
       let h : verdict R (u ++ v) ≡ hands (B .size) = begins-hands (u ++ v) B in
       let z : _≡_ {A = ℕ} 0 1 = cc in omega arith
+
+  -- none begins at a byte that the scan up to its first datagram passes over, whatever follows
+  pub none-passed :
+      (u v : List ℕ) {f : First} → first (verdict R) u ≡ f → (k : ℕ) → k < passedIn (verdict R) f → k ≤ length u
+      → Begins (R .acceptable) (drop k (u ++ v)) → ⊥
+  none-passed u v e k h l B =
+      let m : k < passedIn (verdict R) (first (verdict R) u) = subst (λ (f : First). k < passedIn (verdict R) f) (sym e) h in
+      passes-none (drop k u) v (first-passes (verdict R) u k m) (subst (Begins (R .acceptable)) (drop-append-le k u v l) B)
 
   bare-among : (u : List ℕ) → Bare (R .acceptable) u → Among (R .acceptable) u []
   bare-among [] h = end

@@ -45,7 +45,7 @@ module _ {X O : Type 0} (K : Consumer X O) (R : Rules) where
 
 module _ {X O : Type 0} (K : Consumer X O) (R : Rules) (M : Lawful R) (Q : Invariant K (R .acceptable)) where
   -- what a call on a safe session gives, by its case
-  data Step (s : Session X) (p : List ℕ) : Fed (Session X) O → Type 0 where
+  pub data Step (s : Session X) (p : List ℕ) : Fed (Session X) O → Type 0 where
     down : (m : ℕ) → outcome (R .limits) (s .scan .fed) (length p) ≡ turnedDown m → Step s p (refusing m s)
     waited :
         (n : ℕ) (h : List ℕ) → length p ≤ R .limits .piece → s .scan .fed + length p ≤ R .limits .session
@@ -56,7 +56,7 @@ module _ {X O : Type 0} (K : Consumer X O) (R : Rules) (M : Lawful R) (Q : Invar
         → first (verdict R) (s .scan .held ++ take k p) ≡ finds n d r
         → Step s p (carrying K s (taking (s .scan) k (finds n d r)))
 
-  step : (s : Session X) (p : List ℕ) → Safe K R s → Step s p (feedSession K R s p)
+  pub step : (s : Session X) (p : List ℕ) → Safe K R s → Step s p (feedSession K R s p)
   unfolding feedSession call
   step s p Z =
       rw (safe-sound K R s Z) (go (view R (s .scan) p))
@@ -85,7 +85,7 @@ module _ {X O : Type 0} (K : Consumer X O) (R : Rules) (M : Lawful R) (Q : Invar
       go (made a b q) = to q (by a b (first (verdict R) (s .scan .held ++ take k p)) refl)
 
   -- what is handed out is acceptable
-  handed-acceptable : (u : List ℕ) {n : ℕ} {d r : List ℕ} → first (verdict R) u ≡ finds n d r → R .acceptable d ≡ true
+  pub handed-acceptable : (u : List ℕ) {n : ℕ} {d r : List ℕ} → first (verdict R) u ≡ finds n d r → R .acceptable d ≡ true
   handed-acceptable u {n} {d} {r} e =
       let k : Parted (verdict R) (stable R M) u (finds n d r) = parted-at (verdict R) (stable R M) u e in
       ap (R .acceptable) (sym (k .1)) ∙ hands-acceptable (R .candidate) (R .acceptable) (drop n u) (length d) (k .3) .2

@@ -1,6 +1,6 @@
 -- Laws of the scan over any stable verdict: 01's sentences, the scan of a stream that is cut, how its bytes are parted.
 -- Assumes nothing.
-use Prim.Native.Nat.{ℕ, zero, suc, pred, _+_, _≤_}
+use Prim.Native.Nat.{ℕ, zero, suc, pred, _+_, _≤_, _<_}
 use mathlib.Core.Path.{_≡_, refl, sym, ap, _∙_, subst}
 use mathlib.Core.List.{List, [], _∷_, _++_}
 use native.Mathlib.Nat.{zero-add, add-assoc}
@@ -180,3 +180,30 @@ module _ (verdict : List ℕ → Verdict) where
 
     pub parted-at : (u : List ℕ) {f : First} → first verdict u ≡ f → Parted u f
     parted-at u e = subst (Parted u) e (parted u)
+
+  -- the bytes that the scan up to its first datagram passes over
+  abbrev pub passedIn : First → ℕ
+  passedIn (ends n h) = n
+  passedIn (finds n d r) = n
+
+  -- at each of them the verdict passes over one byte
+  pub first-passes : (u : List ℕ) (k : ℕ) → k < passedIn (first verdict u) → verdict (drop k u) ≡ passes
+  unfolding first
+  first-passes [] k h = absurd (omega arith)
+  first-passes (b ∷ u) k h = go (verdict (b ∷ u)) refl h (λ (j : ℕ). first-passes u j)
+    where
+      more : (f : First) → passedIn (later 1 f) ≡ suc (passedIn f)
+      more (ends n h) = omega arith
+      more (finds n d r) = omega arith
+
+      at : (j : ℕ) → verdict (b ∷ u) ≡ passes → j < suc (passedIn (first verdict u))
+          → ((i : ℕ) → i < passedIn (first verdict u) → verdict (drop i u) ≡ passes) → verdict (drop j (b ∷ u)) ≡ passes
+      at zero e l on = e
+      at (suc j) e l on = on j (omega arith)
+
+      go :
+          (w : Verdict) → verdict (b ∷ u) ≡ w → k < passedIn (firstBy (verdict (b ∷ u)) (b ∷ u) (first verdict u))
+          → ((j : ℕ) → j < passedIn (first verdict u) → verdict (drop j u) ≡ passes) → verdict (drop k (b ∷ u)) ≡ passes
+      go waits e l on = absurd (let m : k < 0 = rw e at l in omega arith)
+      go passes e l on = let m : k < passedIn (later 1 (first verdict u)) = rw e at l in at k e (omega (arith, more (first verdict u))) on
+      go (hands n) e l on = absurd (let m : k < 0 = rw e at l in omega arith)

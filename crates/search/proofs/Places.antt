@@ -1,20 +1,23 @@
 -- What the place where the scan stops tells of the scan, for an accepted setup.
 use Prim.Native.Nat.{ℕ, _+_, _≤_, _<_}
-use mathlib.Core.Path.{_≡_, refl, sym, ap, _∙_}
+use mathlib.Core.Option.{none, some}
+use mathlib.Core.Path.{_≡_, refl, sym, ap, _∙_, subst}
 use mathlib.Core.Bool.{true}
-use mathlib.Core.List.{List}
+use mathlib.Core.List.{List, [], append-nil}
 use native.Mathlib.Omega.{arith}
 use lib.ListN.{length, take, drop, length-drop}
 use lib.Seq.{length-take-le}
 use Rattle.setup.specs.Setup.{rulingOn, lengthOf}
 use Rattle.setup.specs.declared.Setup.{Setup}
 use Rattle.setup.specs.declared.Ruling.the-variants.{Accepted}
-use Rattle.scan.specs.Scan.{First, ends, finds, first}
-use Rattle.scan.proofs.ScanLaws.{Parted, parted-at}
+use Rattle.scan.specs.Scan.{First, ends, finds, first, Undecided as Open}
+use Rattle.scan.specs.Stream.{Begins}
+use Rattle.scan.proofs.ScanLaws.{Parted, parted-at, passedIn}
 use Rattle.scan.proofs.FrontLaws.{hands-acceptable}
-use Rattle.scan.proofs.AmongLaws.{stable}
+use Rattle.scan.proofs.AmongLaws.{stable, none-passed}
+use Rattle.search.specs.declared.Place.{Place}
 use Rattle.search.specs.declared.Place.the-variants.{Complete, Undecided}
-use Rattle.search.specs.Search.{candidateOf, isDatagram, rulesOf, verdictOf, placeOf}
+use Rattle.search.specs.Search.{candidateOf, isDatagram, rulesOf, verdictOf, placeOf, passedBefore, sizeFound}
 use Rattle.search.proofs.Datagrams.{datagram-length, lawful}
 
 -- the scan of p stops at a datagram of the setup, which begins at `at` and has that size
@@ -74,3 +77,42 @@ module _ (u : Setup) (a : rulingOn u ≡ Accepted) (p : List ℕ) (at : ℕ) whe
             within = omega (arith, k .0, here);
             short = omega (arith, k .0, here, holds .shorter h (holds .undecided h (k .2)));
           }
+
+-- ---- what the place says
+
+module _ (u : Setup) (a : rulingOn u ≡ Accepted) (p : List ℕ) where
+  abbrev place : Place
+  place = placeOf (first (verdictOf u) p)
+
+  passed-same : (f : First) → passedBefore (placeOf f) ≡ passedIn (verdictOf u) f
+  passed-same (ends n h) = refl
+  passed-same (finds n d r) = refl
+
+  few : (f : First) → first (verdictOf u) p ≡ f → passedIn (verdictOf u) f ≤ length p
+  few (ends n h) e = omega (arith, parted-at (verdictOf u) (stable (rulesOf u) (lawful u a)) p e .0)
+  few (finds n d r) e = omega (arith, parted-at (verdictOf u) (stable (rulesOf u) (lawful u a)) p e .0)
+
+  pub place-none : (k : ℕ) → k < passedBefore place → Begins (isDatagram u) (drop k p) → ⊥
+  place-none k l B =
+      let f = first (verdictOf u) p in
+      let m : k < passedIn (verdictOf u) f = omega (arith, passed-same f) in
+      none-passed (rulesOf u) (lawful u a) p [] refl k m (omega (arith, few f refl)) (subst (λ (v : List ℕ). Begins (isDatagram u) (drop k v)) (sym (append-nil p)) B)
+
+  pub place-complete : {n : ℕ} → sizeFound place ≡ some n → (passedBefore place + n ≤ length p) × (isDatagram u (take n (drop (passedBefore place) p)) ≡ true)
+  place-complete {n} e = by place refl e
+    where
+      by : (r : Place) → place ≡ r → sizeFound r ≡ some n → (passedBefore place + n ≤ length p) × (isDatagram u (take n (drop (passedBefore place) p)) ≡ true)
+      by (Undecided m) q x = absurd (let z : _≡_ {A = ℕ} 0 1 = cc in omega arith)
+      by (Complete m size) q x =
+          let c = found-complete u a p m q in
+          let same : size ≡ n = cc in
+          rw (q, ← same) (c .within, c .good)
+
+  pub place-open : sizeFound place ≡ none → Open (verdictOf u) (drop (passedBefore place) p)
+  place-open e = by (first (verdictOf u) p) refl e
+    where
+      by : (f : First) → first (verdictOf u) p ≡ f → sizeFound (placeOf f) ≡ none → Open (verdictOf u) (drop (passedBefore place) p)
+      by (finds n d r) q x = absurd (let z : _≡_ {A = ℕ} 0 1 = cc in omega arith)
+      by (ends n h) q x =
+          let k = parted-at (verdictOf u) (stable (rulesOf u) (lawful u a)) p q in
+          rw q (subst (Open (verdictOf u)) (sym (k .1)) (k .2))

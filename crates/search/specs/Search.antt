@@ -2,6 +2,7 @@
 use Prim.Native.Nat.{ℕ, _^_}
 use mathlib.Core.Bool.{Bool, _&&_}
 use mathlib.Core.List.{List}
+use mathlib.Core.Option.{Option, none, some}
 use lib.ListN.{length}
 use Rattle.integers.specs.Bytes.{areBytes}
 use Rattle.setup.specs.Setup.{lengthOf}
@@ -57,3 +58,12 @@ verdictIn s = front (oneCandidate (s .identifier) (sizeIn s)) (isDatagramIn s)
 abbrev pub placeOf : First → Place
 placeOf (ends n h) = Undecided n
 placeOf (finds n d r) = Complete n (length d)
+
+-- what each case says: how many bytes are passed over, and the size of the datagram behind them, none where what follows is undecided
+abbrev pub passedBefore : Place → ℕ
+passedBefore (Undecided n) = n
+passedBefore (Complete n size) = n
+
+abbrev pub sizeFound : Place → Option ℕ
+sizeFound (Undecided n) = none
+sizeFound (Complete n size) = some size

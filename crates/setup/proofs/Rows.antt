@@ -1,10 +1,14 @@
 -- Laws of the rows: the table's, the parts that a row has, and which groups are carried.
-use Prim.Native.Nat.{ℕ}
+use Prim.Native.Nat.{ℕ, zero, suc, _<_}
 use native.Mathlib.Omega.{arith}
 use mathlib.Core.Bool.{Bool, true, false}
-use mathlib.Core.List.{[], _∷_}
+use mathlib.Core.List.{List, [], _∷_}
+use mathlib.Core.Option.{some}
 use mathlib.Core.Path.{_≡_, refl, ap, _∙_}
+use borrow.Author.Tests.{ne-eqb}
+use lib.ListN.{length, getD}
 use Rattle.setup.specs.Layout.{gyro, accelerometer, inclinometer, partsOf, rowAt, partsIn, partsAt, carries, groupsOf, groupsCarried}
+use Rattle.setup.specs.Layout.{carrying, Entry, entry, table, rowIn, listingRow, listingNumber}
 use Rattle.setup.specs.Setup.{isListed}
 use Rattle.setup.specs.Sensor.{rowOf}
 use Rattle.setup.specs.declared.Row.{Row}
@@ -65,3 +69,33 @@ carried-groups i = by (rowAt i) refl
     by : (l : Listing) → rowAt i ≡ l → isListed l ≡ true → groupsCarried i ≡ groupsOf (rowOf l)
     by (Listed r) h e = listed-groups i h
     by Unlisted h e = let z : _≡_ {A = ℕ} 0 1 = cc in absurd (omega arith)
+
+-- ---- what the table says of an identifier
+
+-- of one that has no line the number 5
+unlisted-in : (es : List Entry) (i : ℕ) → ((k : ℕ) → k < length es → i ≡ getD es k (entry 0 [] 0) .identifier → ⊥) → listingNumber (rowIn es i) ≡ some 5
+unlisted-in [] i h = refl
+unlisted-in (e ∷ es) i h = rw (ne-eqb i (e .identifier) (h 0 (omega arith))) (unlisted-in es i (λ k l. h (suc k) (omega arith)))
+
+pub unlisted-five : (i : ℕ) → ((k : ℕ) → k < length table → i ≡ getD table k (entry 0 [] 0) .identifier → ⊥) → listingNumber (rowAt i) ≡ some 5
+unfolding rowAt
+unlisted-five i h = unlisted-in table i h
+
+-- of one that has a line its row: each of the sixteen
+abbrev RowsOf : List Entry → Type 0
+RowsOf [] = Unit {0}
+RowsOf (e ∷ es) = (listingRow (rowAt (e .identifier)) ≡ some (carrying (e .carries))) × RowsOf es
+
+all-rows : RowsOf table
+unfolding rowAt
+all-rows = (refl, (refl, (refl, (refl, (refl, (refl, (refl, (refl, (refl, (refl, (refl, (refl, (refl, (refl, (refl, (refl, tt))))))))))))))))
+
+row-in : (es : List Entry) → RowsOf es → (k : ℕ) → k < length es
+    → listingRow (rowAt (getD es k (entry 0 [] 0) .identifier)) ≡ some (carrying (getD es k (entry 0 [] 0) .carries))
+row-in [] h k l = absurd (omega arith)
+row-in (e ∷ es) h zero l = h .0
+row-in (e ∷ es) h (suc k) l = row-in es (h .1) k (omega arith)
+
+pub listed-row-at : (k : ℕ) → k < length table
+    → listingRow (rowAt (getD table k (entry 0 [] 0) .identifier)) ≡ some (carrying (getD table k (entry 0 [] 0) .carries))
+listed-row-at = row-in table all-rows

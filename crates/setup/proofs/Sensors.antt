@@ -3,13 +3,15 @@ use Prim.Native.Nat.{ℕ, zero, suc, _≤_, _<_}
 use native.Mathlib.Omega.{arith}
 use mathlib.Core.Bool.{Bool, true, false, _||_, cond}
 use mathlib.Core.List.{List}
+use mathlib.Core.Option.{none, some}
 use mathlib.Core.Path.{_≡_, refl, sym, ap, _∙_}
 use lib.Dec.{eqb}
 use lib.ListN.{getD}
 use borrow.Author.Tests.{eqb-true}
 use Rattle.setup.specs.Layout.{layoutOf, lengthIn, rowAt, groupsOf, groupsCarried}
-use Rattle.setup.specs.Setup.{hertz, unitNumber, rateListed, rulingOn, lengthOf}
+use Rattle.setup.specs.Setup.{hertz, unitNumber, rulingNumber, rateListed, setupNumber, rulingOn, lengthOf}
 use Rattle.setup.specs.Sensor.{rateOf, unitOf, unitsIn, unitsOf, shiftsIn, shiftsOf, rowOf, sensorOf, describedBy, descriptionOf}
+use Rattle.setup.specs.Sensor.{describedSensor, describedNumber}
 use Rattle.setup.specs.declared.Setup.{Setup}
 use Rattle.setup.specs.declared.Listing.the-variants.{Listed}
 use Rattle.setup.specs.declared.Unit.the-variants.{Instantaneous}
@@ -20,16 +22,17 @@ use Rattle.setup.specs.declared.Ruling.{Ruling}
 use Rattle.setup.specs.declared.Ruling.the-variants as ruling
 use Rattle.setup.specs.declared.Described.the-variants as description
 use Rattle.setup.proofs.Rows.{listed-groups}
+use Rattle.setup.proofs.Rules.{number-accepted, ruling-number}
 use Rattle.setup.proofs.Refusals.{each, none-above, accepted, listed-length, absent-plain}
 
 -- a number is a rate if its case is another than the one that also answers the other numbers, or if it is 0
 abbrev pub toldBy : Bool → Rate → Bool
-toldBy none ExternalTrigger = none
-toldBy none Hertz125 = true
-toldBy none Hertz250 = true
-toldBy none Hertz500 = true
-toldBy none Hertz1000 = true
-toldBy none Hertz2000 = true
+toldBy isZero ExternalTrigger = isZero
+toldBy isZero Hertz125 = true
+toldBy isZero Hertz250 = true
+toldBy isZero Hertz500 = true
+toldBy isZero Hertz1000 = true
+toldBy isZero Hertz2000 = true
 
 pub rate-told : (n : ℕ) → rateListed n ≡ toldBy (eqb n 0) (rateOf n)
 unfolding rateOf
@@ -148,3 +151,16 @@ described-refused u {n} = by (rulingOn u)
     by : (r : Ruling) → describedBy r (sensorOf u) ≡ description.Refused n → r ≡ ruling.Refused n
     by ruling.Accepted e = let z : _≡_ {A = ℕ} 0 1 = cc in absurd (omega arith)
     by (ruling.Refused m) e = let z : m ≡ n = cc in ap ruling.Refused z
+
+-- ---- what a description says, by the setup's number
+
+pub described-number : (u : Setup) → describedNumber (descriptionOf u) ≡ setupNumber u
+unfolding descriptionOf
+described-number u = by (rulingOn u) ∙ ruling-number u
+  where
+    by : (r : Ruling) → describedNumber (describedBy r (sensorOf u)) ≡ rulingNumber r
+    by ruling.Accepted = refl
+    by (ruling.Refused n) = refl
+
+pub described-sensor : (u : Setup) → setupNumber u ≡ none → describedSensor (descriptionOf u) ≡ some (sensorOf u)
+described-sensor u e = ap describedSensor (described u (number-accepted u e))

@@ -3,6 +3,7 @@
 use Prim.Native.Nat.{ℕ, _+_, _/_, _%_}
 use mathlib.Core.Bool.{Bool, true, false, _||_, cond}
 use mathlib.Core.List.{List, [], _∷_, _++_}
+use mathlib.Core.Option.{Option, none, some}
 use lib.Dec.{eqb}
 use lib.ListN.{length}
 use Rattle.crc.specs.Check.{Parameters, stim300}
@@ -130,6 +131,15 @@ rowIn (e ∷ es) i = cond (eqb i (e .identifier)) (Listed (carrying (e .carries)
 
 unfoldable pub rowAt : ℕ → Listing
 rowAt i = rowIn table i
+
+-- what each case says: the row, or 5, which refuses an identifier that isn't in the table
+abbrev pub listingRow : Listing → Option Row
+listingRow (Listed r) = some r
+listingRow Unlisted = none
+
+abbrev pub listingNumber : Listing → Option ℕ
+listingNumber (Listed r) = none
+listingNumber Unlisted = some 5
 
 -- the parts that the table gives an identifier, none where it isn't in the table
 abbrev pub partsIn : Listing → List Part

@@ -2,6 +2,7 @@
 use Prim.Native.Nat.{ℕ}
 use mathlib.Core.Bool.{Bool, true, false, cond}
 use mathlib.Core.List.{List, [], _∷_}
+use mathlib.Core.Option.{Option, none, some}
 use lib.Dec.{eqb}
 use lib.ListN.{getD}
 use Rattle.setup.specs.Layout.{rowAt}
@@ -75,3 +76,12 @@ describedBy (ruling.the-variants.Refused number) s = description.the-variants.Re
 
 unfoldable pub descriptionOf : Setup → Described
 descriptionOf u = describedBy (rulingOn u) (sensorOf u)
+
+-- what each case says: the sensor, or the number that refuses the setup
+abbrev pub describedSensor : Described → Option Sensor
+describedSensor (description.the-variants.Accepted s) = some s
+describedSensor (description.the-variants.Refused number) = none
+
+abbrev pub describedNumber : Described → Option ℕ
+describedNumber (description.the-variants.Accepted s) = none
+describedNumber (description.the-variants.Refused number) = some number

@@ -2,6 +2,7 @@
 use Prim.Native.Nat.{ℕ}
 use mathlib.Core.Bool.{Bool, true, false, not, _&&_, _||_, cond}
 use mathlib.Core.List.{List, [], _∷_}
+use mathlib.Core.Option.{Option, none, some}
 use lib.Dec.{eqb, ltb}
 use lib.ListN.{getD, replicate}
 use Rattle.setup.specs.Layout.{layoutOf, lengthIn, rowAt, groupsCarried}
@@ -39,10 +40,24 @@ pub record Rule : Type 0 where
 abbrev pub rule : ℕ → Bool → Rule
 rule n b = record { applies = b; number = n }
 
--- the answer by rules in checking order: refused by the number of the first that applies, accepted if none does
+-- the number by rules in checking order: that of the first that applies, none if none does
+abbrev pub firstNumber : List Rule → Option ℕ
+firstNumber [] = none
+firstNumber (r ∷ rs) = cond (r .applies) (some (r .number)) (firstNumber rs)
+
+-- what each case of a ruling says: no number, or the number that refuses
+abbrev pub rulingNumber : Ruling → Option ℕ
+rulingNumber Accepted = none
+rulingNumber (Refused n) = some n
+
+-- the ruling with a number or none
+abbrev pub rulingWith : Option ℕ → Ruling
+rulingWith none = Accepted
+rulingWith (some n) = Refused n
+
+-- the ruling by rules in checking order
 abbrev pub firstOf : List Rule → Ruling
-firstOf [] = Accepted
-firstOf (r ∷ rs) = cond (r .applies) (Refused (r .number)) (firstOf rs)
+firstOf rs = rulingWith (firstNumber rs)
 
 -- 4: the rate is one of the six
 abbrev pub rateListed : ℕ → Bool
@@ -79,6 +94,10 @@ setupRules s =
     rule 8 (anyAbove 31 (s .shifts)) ∷
     rule 9 (stray (groupsCarried (s .identifier)) (s .units) (s .shifts)) ∷
     []
+
+-- the number that refuses a setup given as values, none for an accepted one
+unfoldable pub setupNumber : Setup → Option ℕ
+setupNumber s = firstNumber (setupRules s)
 
 unfoldable pub rulingOn : Setup → Ruling
 rulingOn s = firstOf (setupRules s)

@@ -3,11 +3,11 @@ use Prim.Native.Nat.{ℕ, _≤_}
 use native.Mathlib.Omega.{arith}
 use mathlib.Core.List.{List}
 use mathlib.Core.Path.{_≡_, refl, sym, ap, _∙_}
-use Rattle.setup.specs.Setup.{firstOf, setupRules, rulingOn, zeroSetup}
+use Rattle.setup.specs.Setup.{firstNumber, rulingNumber, firstOf, setupRules, rulingOn, zeroSetup}
 use Rattle.setup.specs.declared.Setup.{Setup}
 use Rattle.setup.specs.declared.Ruling.{Ruling}
 use Rattle.setup.specs.declared.Ruling.the-variants.{Accepted, Refused}
-use Rattle.setup.proofs.Rules.{first-within, none-applies}
+use Rattle.setup.proofs.Rules.{first-number, first-within, none-applies}
 use Rattle.setup_line.specs.SetupLine.{setupWritten, lineRules, readWith, lineRead}
 
 line-answer : (l : List ℕ) → lineRead l .answer ≡ firstOf (lineRules l)
@@ -44,3 +44,8 @@ accepted-line l e =
     let none = none-applies (lineRules l) a in
     let same = accepted-with (firstOf (lineRules l)) (setupWritten l) a in
     (same, ap rulingOn same ∙ rw (none .0, none .1 .0, none .1 .1 .0) at a)
+
+-- ---- by the number
+
+pub line-number : (l : List ℕ) → rulingNumber (lineRead l .answer) ≡ firstNumber (lineRules l)
+line-number l = ap rulingNumber (line-answer l) ∙ first-number (lineRules l)

@@ -7,7 +7,7 @@ use lib.Dec.{eqb}
 use Rattle.setup.specs.Setup.{hertz}
 use Rattle.setup.specs.declared.Rate.{Rate}
 use Rattle.gaps.specs.declared.Gap.{Gap}
-use Rattle.gaps.specs.Gaps.{samples, stepAt, missedAfter, gapAt, gapBetween}
+use Rattle.gaps.specs.Gaps.{samples, stepAt, gapWith, missedAfter, missedAt, gapBetween}
 use Rattle.gaps.proofs.Gaps.{elapsed-range}
 use borrow.Author.Needs.{needs}
 use Rattle.gaps.proofs.gap_between.Statement.{statement}
@@ -19,13 +19,13 @@ some c = rw (c .elapsed .ensures) (elapsed-range (c .before .before .args .previ
 
 -- the gap at a rate with so many samples from one datagram to the next
 told : (c : tie.After-elapsed) {rate : Rate} {s : ℕ} {g : Gap} → c .before .before .args .rate ≡ rate
-    → g ≡ missedAfter (samples s) (c .elapsed .result) → stepAt (hertz rate) ≡ samples s → eqb (hertz rate) 0 ≡ false
+    → g ≡ gapWith (missedAfter (samples s) (c .elapsed .result)) → stepAt (hertz rate) ≡ samples s → eqb (hertz rate) 0 ≡ false
     → let a = c .before .before .args in g ≡ gapBetween (a .rate) (a .first) (a .previous) (a .counter)
-unfolding gapAt
+unfolding missedAt
 told c r e step later = rw (e, ← step, c .elapsed .ensures, r, c .before .if1 .left, later)
 
 returns : tie.Need-returns
-unfolding gapAt
+unfolding missedAt
 returns c = rw (c .if1 .taken)
 
 elapsed-requires : tie.Need-elapsed-requires
@@ -65,7 +65,7 @@ missed-requires-5 : tie.Need-missed-requires-5
 missed-requires-5 c κs = (omega arith, some (c .before .before))
 
 returns-2 : tie.Need-returns-2
-unfolding gapAt
+unfolding missedAt
 returns-2 c = rw (c .before .before .before .if1 .left, c .enum-told .given .1)
 
 returns-3 : tie.Need-returns-3
