@@ -12,3 +12,5 @@ pub mod AxisAt
 pub mod CallCases
 pub mod Demands
 pub mod WorkedExample
+pub mod InclinometerExample
+pub mod LimitExample
