@@ -194,19 +194,26 @@ fn setup_written(line: &[u8]) -> Setup
     }
 }
 
-// A refused line: the number, and a setup of zeros.
-fn line_refused(number: u8) -> LineRead
-    ensures { λ r. ⌜ r ≡ record { answer = Refused number; setup = zeroSetup } ⌝ }
+// What a refused line gives back.
+fn zero_setup() -> Setup
+    ensures { λ r. ⌜ r ≡ zeroSetup ⌝ }
+{
+    Setup {
+        rate: 0,
+        identifier: 0,
+        termination: 0,
+        units: [0; 3],
+        shifts: [0; 3],
+    }
+}
+
+// A refused line: the number, and the setup that is given back with it.
+fn line_refused(number: u8, setup: Setup) -> LineRead
+    ensures { λ r. ⌜ r ≡ record { answer = Refused number; setup = setup } ⌝ }
 {
     LineRead {
         answer: Ruling::Refused(number),
-        setup: Setup {
-            rate: 0,
-            identifier: 0,
-            termination: 0,
-            units: [0; 3],
-            shifts: [0; 3],
-        },
+        setup: setup,
     }
 }
 
@@ -214,15 +221,16 @@ fn line_refused(number: u8) -> LineRead
 pub fn read_line(line: &[u8]) -> LineRead
     ensures { λ r. ⌜ r ≡ lineRead (now (line .entry)) ⌝ }
 {
+    let zeros = zero_setup();
     let n = line.len();
     if (n == 0) | (64 < n) {
-        return line_refused(1);
+        return line_refused(1, zeros);
     }
     if field_count(line) != 9 {
-        return line_refused(2);
+        return line_refused(2, zeros);
     }
     if !line_written(line) {
-        return line_refused(3);
+        return line_refused(3, zeros);
     }
     let setup = setup_written(line);
     let answer = setup::judge(setup);
@@ -231,6 +239,6 @@ pub fn read_line(line: &[u8]) -> LineRead
             answer: Ruling::Accepted,
             setup: setup,
         },
-        Ruling::Refused(number) => line_refused(number),
+        Ruling::Refused(number) => line_refused(number, zeros),
     }
 }

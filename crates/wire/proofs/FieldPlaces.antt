@@ -6,6 +6,7 @@ use mathlib.Core.Bool.{Bool, true, false, cond}
 use mathlib.Core.List.{List, [], _∷_}
 use mathlib.Core.Path.{_≡_, refl, sym, ap, _∙_}
 use lib.Dec.{eqb, ltb}
+use lib.IntN.{ℤ}
 use lib.ListN.{length, getD, take, drop}
 use lib.Seq.{drop-cons}
 use borrow.Author.Tests.{lt-ltb}
@@ -93,3 +94,13 @@ byte-at-place ws k at s h e = by (ltb 0 at)
 pub byte-placed : (r : Row) (s : List ℕ) (p : Part) (k : ℕ) → eqb (place p) 0 ≡ false → k < length (widths p) → getD (widths p) k 0 ≡ 1
     → unsignedField (fieldsOfPart (partsOf r) s p) k ≡ byteAt (sum (take k (widths p))) (placed (partsOf r) p) s
 byte-placed r s p k e h w = ap (λ fs. unsignedField fs k) (fields-placed r s p e) ∙ byte-at-place (widths p) k (placed (partsOf r) p) s h w
+
+-- what was read at the place of a part is that part's: X, Y and Z of w bytes each, and a field of one byte
+module _ (r : Row) (s : List ℕ) (p : Part) (carried : eqb (place p) 0 ≡ false) where
+  pub axes-read : (w : ℕ) {at : ℕ} {xs : List ℤ} → widths p ≡ w ∷ w ∷ w ∷ 1 ∷ [] → at ≡ placed (partsOf r) p
+      → xs ≡ axes (fieldsAt (w ∷ w ∷ w ∷ 1 ∷ []) at s) → xs ≡ axes (fieldsOfPart (partsOf r) s p)
+  axes-read w e here read = read ∙ rw (here, ← e, fields-placed r s p carried)
+
+  pub byte-read : (k : ℕ) {at b : ℕ} → k < length (widths p) → getD (widths p) k 0 ≡ 1 → at ≡ placed (partsOf r) p
+      → b ≡ byteAt (sum (take k (widths p))) at s → b ≡ unsignedField (fieldsOfPart (partsOf r) s p) k
+  byte-read k h e here read = read ∙ rw (here, byte-placed r s p k carried h e)

@@ -119,10 +119,10 @@ pub fn length_of(row: Row, terminated: bool) -> usize
     check_place(row) + CHECK + if_carried(terminated, ENDING)
 }
 
-// Three bytes of a reading. Where they are all there, one test is enough; bytes beyond the end read as 0. Places lie within the longest
-// datagram: 59 bytes before the check, 65 in all.
+// Three bytes of a reading. Where they are all there, one test is enough; bytes beyond the end read as 0. A place is 255 at most, so that
+// no sum wraps.
 fn reading_at(s: &[u8], at: usize) -> i32
-    requires { ⌜ at ≤ 65 ⌝ }
+    requires { ⌜ at ≤ 255 ⌝ }
     ensures { λ r. ⌜ r ≡ signedBytes (window 3 at (now (s .entry))) ⌝ }
 {
     if at + 2 < s.len() {
@@ -137,7 +137,7 @@ fn reading_at(s: &[u8], at: usize) -> i32
 }
 
 fn temperature_at(s: &[u8], at: usize) -> i32
-    requires { ⌜ at ≤ 65 ⌝ }
+    requires { ⌜ at ≤ 255 ⌝ }
     ensures { λ r. ⌜ r ≡ signedBytes (window 2 at (now (s .entry))) ⌝ }
 {
     if at + 1 < s.len() {
@@ -151,7 +151,7 @@ fn temperature_at(s: &[u8], at: usize) -> i32
 }
 
 fn latency_at(s: &[u8], at: usize) -> u16
-    requires { ⌜ at ≤ 65 ⌝ }
+    requires { ⌜ at ≤ 255 ⌝ }
     ensures { λ r. ⌜ r ≡ bigEndian (window 2 at (now (s .entry))) ⌝ }
 {
     if at + 1 < s.len() {
@@ -166,7 +166,7 @@ fn latency_at(s: &[u8], at: usize) -> u16
 
 // A signed number of 2 or 3 bytes.
 fn signed_at(s: &[u8], at: usize, width: usize) -> i32
-    requires { ⌜ at ≤ 65 ⌝ }
+    requires { ⌜ at ≤ 255 ⌝ }
     requires { ⌜ (2 ≤ width) × (width ≤ 3) ⌝ }
     ensures { λ r. ⌜ r ≡ signedBytes (window width at (now (s .entry))) ⌝ }
 {
@@ -205,7 +205,7 @@ fn aux_at(s: &[u8], place: usize) -> i32
 
 // The byte `skipped` bytes into a part; 0 for one that isn't carried.
 fn byte_at(s: &[u8], place: usize, skipped: usize) -> u8
-    requires { ⌜ (place ≤ 59) × (skipped ≤ 9) ⌝ }
+    requires { ⌜ (place ≤ 59) × (skipped ≤ 10) ⌝ }
     ensures { λ r. ⌜ r ≡ byteAt skipped place (now (s .entry)) ⌝ }
 {
     if place == 0 {
@@ -216,7 +216,7 @@ fn byte_at(s: &[u8], place: usize, skipped: usize) -> u8
 
 fn bytes_at(s: &[u8], places: [usize; 3], skipped: usize) -> [u8; 3]
     requires { ⌜ (getD places 0 0 ≤ 59) × (getD places 1 0 ≤ 59) × (getD places 2 0 ≤ 59) ⌝ }
-    requires { ⌜ skipped ≤ 9 ⌝ }
+    requires { ⌜ skipped ≤ 10 ⌝ }
     ensures { λ r. ⌜ r ≡ bytesAt skipped places (now (s .entry)) ⌝ }
 {
     [

@@ -14,11 +14,16 @@ use Rattle.integers.proofs.reading_of.Tie as tie
 four-bytes-of-requires : tie.Need-four-bytes-of-requires
 four-bytes-of-requires c κs = search needs
 
-small : (c : tie.After-four-bytes-of) → c .four-bytes-of .result < 2 ^ 24
-small c = omega (arith, bigEndian-four 0 (c .before .args .first) (c .before .args .second) (c .before .args .third))
-
 value : (c : tie.After-four-bytes-of) → c .four-bytes-of .result ≡ bigEndian (c .before .args .first ∷ c .before .args .second ∷ c .before .args .third ∷ [])
-value c = c .four-bytes-of .ensures ∙ bigEndian-zero (c .before .args .first ∷ c .before .args .second ∷ c .before .args .third ∷ [])
+value c =
+    let a = c .before .args in
+    let read : c .four-bytes-of .result ≡ bigEndian (0 ∷ a .first ∷ a .second ∷ a .third ∷ []) = c .four-bytes-of .ensures in
+    read ∙ bigEndian-zero (a .first ∷ a .second ∷ a .third ∷ [])
+
+small : (c : tie.After-four-bytes-of) → c .four-bytes-of .result < 2 ^ 24
+small c =
+    let a = c .before .args in
+    omega (arith, value c, bigEndian-zero (a .first ∷ a .second ∷ a .third ∷ []), bigEndian-four 0 (a .first) (a .second) (a .third))
 
 cast-z : tie.Need-cast-z
 cast-z c = omega (arith, small c)

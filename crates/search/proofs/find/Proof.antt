@@ -108,11 +108,14 @@ returns-2 c =
     ∙ ap (λ (n : ℕ). Complete n (length (take (sizeIn s) (drop (l .i) p)))) (sym (add-zero (l .i)))
     ∙ sym (ap placeOf (l .inv .0 ∙ ap (later (l .i)) e))
 
+-- L bytes are there, and are some: a step of L would keep the bounds too, but not the scan's rule (`loop-again`)
 add-i : tie.Need-add-i Inv-loop μ-loop
-add-i c = omega arith
+add-i c = omega (arith, c .before .before .before .if2 .left)
 
 loop-less : tie.Need-loop-less Inv-loop μ-loop
-loop-less c = omega arith
+loop-less c =
+    let s = c .before .before .before .before .before .before .before .before .before .before .args .sensor in
+    omega (arith, c .before .before .before .before .before .before .before .before .size-of .ensures, length-range (s .row) (s .terminated) .0)
 
 loop-again : tie.Need-loop-again Inv-loop μ-loop
 loop-again c =
