@@ -10,6 +10,7 @@ ghost use Rattle.setup.specs.declared.Ruling.the-variants.{Accepted};
 ghost use Rattle.scan.specs.OneLength.{heldRule};
 ghost use Rattle.search.specs.Search.{limitsOf};
 ghost use Rattle.admission.specs.Admission.{asStruct, allZero, axisRight, groupRight, axesRightBy, isSound, admissionOf};
+use gaps::Datagrams;
 use motion::Axes;
 use motion::Axis;
 use motion::GroupAxes;
@@ -75,30 +76,37 @@ fn held_right(identifier: u8, size: usize, held: [u8; 64], count: usize) -> bool
 }
 
 // Whether the byte sum is right and not above the session's limit. Counts above that are turned down before they are multiplied.
-fn counts_right(setup: Setup, size: u64, datagrams: u64, passed: u64, held: u64, fed: u64) -> bool
+fn counts_right(
+    setup: Setup,
+    size: u64,
+    datagrams: Datagrams,
+    passed: u64,
+    held: u64,
+    fed: u64,
+) -> bool
     requires { ⌜ (18 ≤ size) × (size ≤ 65) × (held ≤ 64) ⌝ }
-    ensures { λ r. ⌜ r ≡ (eqb (size * datagrams + passed + held) fed && leb fed (limitsOf setup .session)) ⌝ }
+    ensures { λ r. ⌜ r ≡ (eqb (size * datagrams .0 + passed + held) fed && leb fed (limitsOf setup .session)) ⌝ }
 {
     let limits = limits_of(setup);
     let most = limits.session;
-    if most < datagrams {
+    if most < datagrams.0 {
         return false;
     }
     if most < passed {
         return false;
     }
-    (size * datagrams + passed + held == fed) & (fed <= most)
+    (size * datagrams.0 + passed + held == fed) & (fed <= most)
 }
 
 // Whether an axis is one that so many datagrams can leave.
-fn axis_right(kept: bool, datagrams: u64, axis: Axis) -> bool
-    requires { ⌜ datagrams * 2 ^ 23 < 2 ^ 64 ⌝ }
-    ensures { λ r. ⌜ r ≡ axisRight kept datagrams axis ⌝ }
+fn axis_right(kept: bool, datagrams: Datagrams, axis: Axis) -> bool
+    requires { ⌜ datagrams .0 * 2 ^ 23 < 2 ^ 64 ⌝ }
+    ensures { λ r. ⌜ r ≡ axisRight kept (datagrams .0) axis ⌝ }
 {
     let begun = axis.begun;
     let last = axis.last;
     let total = axis.total;
-    let small = integers::is_within(total, datagrams * 8388608);
+    let small = integers::is_within(total, datagrams.0 * 8388608);
     let fits = integers::fits_reading(last);
     let unread = integers::is_zero(last as i64);
     let unmoved = integers::is_zero(total);
@@ -106,9 +114,9 @@ fn axis_right(kept: bool, datagrams: u64, axis: Axis) -> bool
 }
 
 // The same of the three axes of a group.
-fn group_right(kept: bool, datagrams: u64, group: GroupAxes) -> bool
-    requires { ⌜ datagrams * 2 ^ 23 < 2 ^ 64 ⌝ }
-    ensures { λ r. ⌜ r ≡ groupRight kept datagrams group ⌝ }
+fn group_right(kept: bool, datagrams: Datagrams, group: GroupAxes) -> bool
+    requires { ⌜ datagrams .0 * 2 ^ 23 < 2 ^ 64 ⌝ }
+    ensures { λ r. ⌜ r ≡ groupRight kept (datagrams .0) group ⌝ }
 {
     let x = axis_right(kept, datagrams, group.x);
     let y = axis_right(kept, datagrams, group.y);
@@ -117,9 +125,9 @@ fn group_right(kept: bool, datagrams: u64, group: GroupAxes) -> bool
 }
 
 // And of the nine.
-fn axes_right(kept: [bool; 3], datagrams: u64, axes: Axes) -> bool
-    requires { ⌜ datagrams * 2 ^ 23 < 2 ^ 64 ⌝ }
-    ensures { λ r. ⌜ r ≡ axesRightBy kept datagrams axes ⌝ }
+fn axes_right(kept: [bool; 3], datagrams: Datagrams, axes: Axes) -> bool
+    requires { ⌜ datagrams .0 * 2 ^ 23 < 2 ^ 64 ⌝ }
+    ensures { λ r. ⌜ r ≡ axesRightBy kept (datagrams .0) axes ⌝ }
 {
     let gyro = group_right(kept[0], datagrams, axes.gyro);
     let accelerometer = group_right(kept[1], datagrams, axes.accelerometer);
@@ -136,7 +144,7 @@ fn sound_by(sensor: Sensor, session: Session) -> bool
     let held = session.held;
     let count = session.count;
     let history = session.history;
-    let datagrams = history.datagrams.0;
+    let datagrams = history.datagrams;
     let axes = history.axes;
     let row = sensor.row;
     let units = sensor.units;

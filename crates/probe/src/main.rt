@@ -13,6 +13,7 @@
 mod given;
 mod shown;
 
+use gaps::Datagrams;
 use given::SESSION_SIZE;
 use given::byte_at;
 use given::gap_of;
@@ -79,7 +80,7 @@ fn write_given(buffer: &mut [u8], s: &[u8]) -> Written {
     text::write_line(
         buffer,
         setup,
-        u64_at(s, 17),
+        Datagrams(u64_at(s, 17)),
         byte_at(s, 25),
         u16_at(s, 26),
         gap,

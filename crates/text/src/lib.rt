@@ -1,6 +1,7 @@
 // The text line of a datagram under a setup, written into a lent buffer (01, The text line).
 ghost use mathlib.Core.Path.{_≡_};
 ghost use Rattle.text.specs.TextLine.{shownOf, lineAnswer, lineBuffer};
+use gaps::Datagrams;
 use gaps::Gap;
 use motion::Totals;
 use setup::Described;
@@ -26,7 +27,7 @@ pub fn shown_of(row: Row, units: Units) -> Shown
 pub fn write_line(
     buffer: &mut [u8],
     setup: Setup,
-    ordinal: u64,
+    ordinal: Datagrams,
     counter: u8,
     latency: u16,
     gap: Gap,
@@ -34,7 +35,7 @@ pub fn write_line(
     statuses: [u8; 3],
     totals: Totals,
 ) -> Written
-    ensures { λ r. ⌜ r ≡ lineAnswer (now (buffer .entry)) setup ordinal counter latency gap readings statuses totals ⌝ ∗ ⌜ now (buffer .exit) ≡ lineBuffer (now (buffer .entry)) setup ordinal counter latency gap readings statuses totals ⌝ }
+    ensures { λ r. ⌜ r ≡ lineAnswer (now (buffer .entry)) setup (ordinal .0) counter latency gap readings statuses totals ⌝ ∗ ⌜ now (buffer .exit) ≡ lineBuffer (now (buffer .entry)) setup (ordinal .0) counter latency gap readings statuses totals ⌝ }
 {
     let described = setup::describe(setup);
     match described {

@@ -8,6 +8,7 @@ ghost use Rattle.text_line.specs.Putting.{Put, behind, headingText, room
 ghost use Rattle.text_line.specs.ShownLine.{shownIf, missedField, axisFields, totalField, totalFields, groupFields, groupsFields, shownText};
 ghost use Rattle.text_line.specs.ShownLine.{rowFits, readingsFit, totalWithin, groupWithin, totalsWithin, outside};
 ghost use Rattle.text_line.specs.ShownLine.{shownAnswer, shownBuffer, longestLine};
+use gaps::Datagrams;
 use gaps::Gap;
 use motion::GroupTotals;
 use motion::Total;
@@ -27,7 +28,7 @@ pub struct Shown {
 
 // The fields before the groups.
 struct Heading {
-    ordinal: u64,
+    ordinal: Datagrams,
     counter: u8,
     latency: u16,
     gap: Gap,
@@ -148,10 +149,10 @@ fn put_missed(buffer: &mut [u8], at: usize, gap: Gap) -> usize
 }
 
 fn put_heading(buffer: &mut [u8], heading: Heading) -> usize
-    requires { ⌜ length (headingText (heading .ordinal) (heading .counter) (heading .latency) (heading .gap)) ≤ length (now buffer) ⌝ }
-    ensures { λ r. ⌜ Put (now (buffer .entry)) 0 (headingText (heading .ordinal) (heading .counter) (heading .latency) (heading .gap)) (now (buffer .exit)) r ⌝ }
+    requires { ⌜ length (headingText (heading .ordinal .0) (heading .counter) (heading .latency) (heading .gap)) ≤ length (now buffer) ⌝ }
+    ensures { λ r. ⌜ Put (now (buffer .entry)) 0 (headingText (heading .ordinal .0) (heading .counter) (heading .latency) (heading .gap)) (now (buffer .exit)) r ⌝ }
 {
-    let ordinal = put_digits(buffer, 0, heading.ordinal);
+    let ordinal = put_digits(buffer, 0, heading.ordinal.0);
     let counter = put_unsigned(buffer, ordinal, true, heading.counter as u64);
     let latency = put_unsigned(buffer, counter, true, heading.latency as u64);
     let gap = heading.gap;
@@ -253,8 +254,8 @@ fn put_line(
     statuses: [u8; 3],
     totals: Totals,
 ) -> usize
-    requires { ⌜ length (shownText shown (heading .ordinal) (heading .counter) (heading .latency) (heading .gap) readings statuses totals) ≤ length (now buffer) ⌝ }
-    ensures { λ r. ⌜ Put (now (buffer .entry)) 0 (shownText shown (heading .ordinal) (heading .counter) (heading .latency) (heading .gap) readings statuses totals) (now (buffer .exit)) r ⌝ }
+    requires { ⌜ length (shownText shown (heading .ordinal .0) (heading .counter) (heading .latency) (heading .gap) readings statuses totals) ≤ length (now buffer) ⌝ }
+    ensures { λ r. ⌜ Put (now (buffer .entry)) 0 (shownText shown (heading .ordinal .0) (heading .counter) (heading .latency) (heading .gap) readings statuses totals) (now (buffer .exit)) r ⌝ }
 {
     let carried = shown.carried;
     let kept = shown.kept;
@@ -296,10 +297,10 @@ fn totals_within(totals: Totals) -> bool
         & group_within(totals.inclinometer)
 }
 
-fn outside(ordinal: u64, readings: [[i32; 3]; 3], totals: Totals) -> bool
-    ensures { λ r. ⌜ r ≡ outside ordinal readings totals ⌝ }
+fn outside(ordinal: Datagrams, readings: [[i32; 3]; 3], totals: Totals) -> bool
+    ensures { λ r. ⌜ r ≡ outside (ordinal .0) readings totals ⌝ }
 {
-    !readings_fit(readings) | !totals_within(totals) | (ordinal == 0)
+    !readings_fit(readings) | !totals_within(totals) | (ordinal.0 == 0)
 }
 
 // A whole line copied into a buffer, unless the buffer is shorter.
@@ -321,8 +322,8 @@ fn write_apart(
     statuses: [u8; 3],
     totals: Totals,
 ) -> Written
-    requires { ⌜ length (shownText shown (heading .ordinal) (heading .counter) (heading .latency) (heading .gap) readings statuses totals) ≤ longestLine ⌝ }
-    ensures { λ r. ⌜ r ≡ roomAnswer (now (buffer .entry)) (shownText shown (heading .ordinal) (heading .counter) (heading .latency) (heading .gap) readings statuses totals) ⌝ ∗ ⌜ now (buffer .exit) ≡ roomBuffer (now (buffer .entry)) (shownText shown (heading .ordinal) (heading .counter) (heading .latency) (heading .gap) readings statuses totals) ⌝ }
+    requires { ⌜ length (shownText shown (heading .ordinal .0) (heading .counter) (heading .latency) (heading .gap) readings statuses totals) ≤ longestLine ⌝ }
+    ensures { λ r. ⌜ r ≡ roomAnswer (now (buffer .entry)) (shownText shown (heading .ordinal .0) (heading .counter) (heading .latency) (heading .gap) readings statuses totals) ⌝ ∗ ⌜ now (buffer .exit) ≡ roomBuffer (now (buffer .entry)) (shownText shown (heading .ordinal .0) (heading .counter) (heading .latency) (heading .gap) readings statuses totals) ⌝ }
 {
     let mut line: [u8; 307] = [0; 307];
     let n = put_line(&mut line, shown, heading, readings, statuses, totals);
@@ -340,7 +341,7 @@ pub fn longest_line() -> usize
 pub fn write_shown(
     buffer: &mut [u8],
     shown: Shown,
-    ordinal: u64,
+    ordinal: Datagrams,
     counter: u8,
     latency: u16,
     gap: Gap,
@@ -348,7 +349,7 @@ pub fn write_shown(
     statuses: [u8; 3],
     totals: Totals,
 ) -> Written
-    ensures { λ r. ⌜ r ≡ shownAnswer (now (buffer .entry)) shown ordinal counter latency gap readings statuses totals ⌝ ∗ ⌜ now (buffer .exit) ≡ shownBuffer (now (buffer .entry)) shown ordinal counter latency gap readings statuses totals ⌝ }
+    ensures { λ r. ⌜ r ≡ shownAnswer (now (buffer .entry)) shown (ordinal .0) counter latency gap readings statuses totals ⌝ ∗ ⌜ now (buffer .exit) ≡ shownBuffer (now (buffer .entry)) shown (ordinal .0) counter latency gap readings statuses totals ⌝ }
 {
     if outside(ordinal, readings, totals) {
         return Written::Refused(13);

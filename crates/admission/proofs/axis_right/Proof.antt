@@ -11,8 +11,8 @@ use borrow.Author.Needs.{needs}
 use Rattle.admission.proofs.axis_right.Statement.{statement}
 use Rattle.admission.proofs.axis_right.Tie as tie
 
-last-fits : (c : tie.After-struct-told) → SFits w32 (c .before .args .axis .last)
-last-fits c = record { sfits = c .struct-told .given .1 .0 .1 }
+last-fits : (c : tie.After-struct-told2) → SFits w32 (c .before .before .args .axis .last)
+last-fits c = record { sfits = c .struct-told2 .given .1 .0 .1 }
 
 mul-is-within : tie.Need-mul-is-within
 mul-is-within c = search needs
@@ -26,7 +26,7 @@ fits-reading-requires c κs = search needs
 cast-is-zero : tie.Need-cast-is-zero
 cast-is-zero c =
     let s = c .before .before .before in
-    sfits-by (toZ-ofZ w32 (s .before .args .axis .last) (last-fits s)) (widen (last-fits s) tt)
+    sfits-by (toZ-ofZ w32 (s .before .before .args .axis .last) (last-fits s)) (widen (last-fits s) tt)
 
 is-zero-requires : tie.Need-is-zero-requires
 is-zero-requires c κs = search needs
@@ -40,9 +40,9 @@ unfolding axisRight
 returns c =
     let n = c .before .before in
     let s = n .before .before .before in
-    let axis = s .before .args .axis in
-    let most = s .before .args .datagrams * 2 ^ 23 in
-    let total-fits : SFits w64 (axis .total) = record { sfits = s .struct-told .given .1 .1 .0 .1 } in
+    let axis = s .before .before .args .axis in
+    let most = s .before .before .args .datagrams .0 * 2 ^ 23 in
+    let total-fits : SFits w64 (axis .total) = record { sfits = s .struct-told2 .given .1 .1 .0 .1 } in
     let small : n .before .is-within .result ≡ within most (axis .total) =
     passed w64 (λ z. within most z) (axis .total) total-fits (n .before .is-within .ensures) in
     let fits : n .fits-reading .result ≡ inReading (axis .last) =

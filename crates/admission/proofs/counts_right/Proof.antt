@@ -29,34 +29,34 @@ limits-of-requires c κs = search needs
 
 returns : tie.Need-returns
 returns c =
-    let s = c .before .before in
+    let s = c .before .before .before in
     let a = s .args in
     sym
-    (over (a .size * a .datagrams + a .passed + a .held) (a .fed) (limitsOf (a .setup) .session)
-    (omega (arith, most (c .before), mul-le-mul-right (a .datagrams) (s .pre .0))))
+    (over (a .size * a .datagrams .0 + a .passed + a .held) (a .fed) (limitsOf (a .setup) .session)
+    (omega (arith, most (c .before .before), mul-le-mul-right (a .datagrams .0) (s .pre .0))))
 
 returns-2 : tie.Need-returns-2
 returns-2 c =
-    let a = c .before .before .before .args in
-    sym (over (a .size * a .datagrams + a .passed + a .held) (a .fed) (limitsOf (a .setup) .session) (omega (arith, most (c .before .before))))
+    let a = c .before .before .before .before .args in
+    sym (over (a .size * a .datagrams .0 + a .passed + a .held) (a .fed) (limitsOf (a .setup) .session) (omega (arith, most (c .before .before .before))))
 
 -- the sum of counts within the limit fits
-small : (c : tie.Else2) → let a = c .before .before .before .args in a .size * a .datagrams + a .passed + a .held < 2 ^ 64
+small : (c : tie.Else2) → let a = c .before .before .before .before .args in a .size * a .datagrams .0 + a .passed + a .held < 2 ^ 64
 small c =
-    let s = c .before .before .before in
-    omega (arith, most (c .before .before), mul-le-mul-right (s .args .datagrams) (s .pre .1))
+    let s = c .before .before .before .before in
+    omega (arith, most (c .before .before .before), mul-le-mul-right (s .args .datagrams .0) (s .pre .1))
 
 mul-result : tie.Need-mul-result
-mul-result c = omega (arith, small c)
+mul-result c = omega (arith, small (c .before))
 
 add-result : tie.Need-add-result
-add-result c = omega (arith, small c)
+add-result c = omega (arith, small (c .before))
 
 add-result-2 : tie.Need-add-result-2
-add-result-2 c = omega (arith, small c)
+add-result-2 c = omega (arith, small (c .before))
 
 returns-3 : tie.Need-returns-3
-returns-3 c = rw (most (c .before .before))
+returns-3 c = rw (most (c .before .before .before .before))
 
 pub counts-right-spec : {M : Type 1} → statement M
 counts-right-spec =

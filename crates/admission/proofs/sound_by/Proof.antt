@@ -25,7 +25,7 @@ use Rattle.admission.proofs.sound_by.Statement.{statement}
 use Rattle.admission.proofs.sound_by.Tie as tie
 
 abbrev from-length : tie.After-length-of → tie.Start
-from-length c = c .before .before .before .before .before .before .before
+from-length c = c .before .before .before .before .before .before .before .before
 
 held-long : (c : tie.Start) → length (c .args .session .held) ≡ 64
 held-long c = search needs

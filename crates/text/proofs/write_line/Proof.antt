@@ -35,13 +35,13 @@ returns c =
     let p = described-accepted (a .setup) (sym (d .describe .ensures) ∙ m .described .given .1) in
     let shows : s .shown-of .result ≡ shownBy (a .setup) =
     s .shown-of .ensures ∙ ap (λ (x : Sensor). shownOf (x .row) (x .units)) (p .1) ∙ sensor-shown (a .setup) (p .0) in
-    line-written (a .buffer .now) (a .setup) (a .ordinal) (a .counter) (a .latency) (a .gap) (a .readings) (a .statuses) (a .totals) (p .0) shows (w .write-shown .ensures)
+    line-written (a .buffer .now) (a .setup) (a .ordinal .0) (a .counter) (a .latency) (a .gap) (a .readings) (a .statuses) (a .totals) (p .0) shows (w .write-shown .ensures)
 
 returns-2 : tie.Need-returns-2
 returns-2 c =
     let d = c .before .before .before in
     let a = d .before .before .args in
-    setup-refused (a .buffer .now) (a .setup) (a .ordinal) (a .counter) (a .latency) (a .gap) (a .readings) (a .statuses) (a .totals)
+    setup-refused (a .buffer .now) (a .setup) (a .ordinal .0) (a .counter) (a .latency) (a .gap) (a .readings) (a .statuses) (a .totals)
     (described-refused (a .setup) (sym (d .describe .ensures) ∙ c .before .described2 .given .1))
 
 pub write-line-spec : {M : Type 1} → statement M

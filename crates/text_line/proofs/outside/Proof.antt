@@ -11,7 +11,7 @@ totals-within-requires c κs = search needs
 
 returns : tie.Need-returns
 unfolding outside
-returns c = rw (c .before .readings-fit .ensures, c .totals-within .ensures)
+returns c = rw (c .before .before .readings-fit .ensures, c .before .totals-within .ensures)
 
 pub outside-spec : {M : Type 1} → statement M
 outside-spec = tie.close (tie.spec readings-fit-requires totals-within-requires returns)

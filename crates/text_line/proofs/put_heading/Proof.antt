@@ -21,7 +21,7 @@ from-latency s = digits (s .args .heading .latency) ∷ from-missed s
 abbrev from-counter : tie.Start → List (List ℕ)
 from-counter s = digits (s .args .heading .counter) ∷ from-latency s
 
-room-all : (c : tie.Start) → 0 + length (digits (c .args .heading .ordinal) ++ behind (from-counter c)) ≤ length (c .args .buffer .now)
+room-all : (c : tie.Start) → 0 + length (digits (c .args .heading .ordinal .0) ++ behind (from-counter c)) ≤ length (c .args .buffer .now)
 room-all c = omega (arith, c .pre)
 
 room-counter : (c : tie.After-put-digits) → c .put-digits .result + length (behind (from-counter (c .before .before .before))) ≤ length (c .put-digits .last .0)
@@ -31,7 +31,7 @@ room-latency : (c : tie.After-put-unsigned) → c .put-unsigned .result + length
 room-latency c = room-then (c .put-unsigned .ensures) (behind (from-latency (c .before .before .before .before .before .before .before .before))) (room-counter (c .before .before .before .before .before))
 
 put-digits-requires : tie.Need-put-digits-requires
-put-digits-requires c κs = room-first 0 (digits (c .before .before .args .heading .ordinal)) (behind (from-counter (c .before .before))) (room-all (c .before .before))
+put-digits-requires c κs = room-first 0 (digits (c .before .before .args .heading .ordinal .0)) (behind (from-counter (c .before .before))) (room-all (c .before .before))
 
 cast-put-unsigned : tie.Need-cast-put-unsigned
 cast-put-unsigned c = search needs

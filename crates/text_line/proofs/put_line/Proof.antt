@@ -13,7 +13,7 @@ use Rattle.text_line.proofs.put_line.Tie as tie
 
 -- the line's heading, and what follows it
 abbrev heading : tie.Start → List ℕ
-heading s = headingText (s .args .heading .ordinal) (s .args .heading .counter) (s .args .heading .latency) (s .args .heading .gap)
+heading s = headingText (s .args .heading .ordinal .0) (s .args .heading .counter) (s .args .heading .latency) (s .args .heading .gap)
 
 abbrev groups : tie.Start → List ℕ
 groups s = behind (groupsFields (s .args .shown .carried) (s .args .shown .kept) (s .args .readings) (s .args .statuses) (s .args .totals))
@@ -22,10 +22,10 @@ abbrev rest : tie.Start → List ℕ
 rest s = groups s ++ 0x0A ∷ []
 
 text : (s : tie.Start)
-    → shownText (s .args .shown) (s .args .heading .ordinal) (s .args .heading .counter) (s .args .heading .latency) (s .args .heading .gap) (s .args .readings) (s .args .statuses) (s .args .totals)
+    → shownText (s .args .shown) (s .args .heading .ordinal .0) (s .args .heading .counter) (s .args .heading .latency) (s .args .heading .gap) (s .args .readings) (s .args .statuses) (s .args .totals)
     ≡ heading s ++ rest s
 text s =
-    line-text (s .args .shown) (s .args .heading .ordinal) (s .args .heading .counter) (s .args .heading .latency) (s .args .heading .gap) (s .args .readings) (s .args .statuses) (s .args .totals)
+    line-text (s .args .shown) (s .args .heading .ordinal .0) (s .args .heading .counter) (s .args .heading .latency) (s .args .heading .gap) (s .args .readings) (s .args .statuses) (s .args .totals)
 
 room-all : (s : tie.Start) → 0 + length (heading s ++ rest s) ≤ length (s .args .buffer .now)
 room-all s = omega (arith, ap length (text s), s .pre)

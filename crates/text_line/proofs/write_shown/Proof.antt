@@ -21,7 +21,7 @@ use Rattle.text_line.proofs.write_shown.Statement.{statement}
 use Rattle.text_line.proofs.write_shown.Tie as tie
 
 abbrev line : tie.Start → List ℕ
-line s = shownText (s .args .shown) (s .args .ordinal) (s .args .counter) (s .args .latency) (s .args .gap) (s .args .readings) (s .args .statuses) (s .args .totals)
+line s = shownText (s .args .shown) (s .args .ordinal .0) (s .args .counter) (s .args .latency) (s .args .gap) (s .args .readings) (s .args .statuses) (s .args .totals)
 
 -- each number is one of its type
 by : (g : Gap) → Is (row gap.the-type) g (val gap.the-type laws.the-laws g ∷ []) → MissedFits g
@@ -35,15 +35,15 @@ status-fits : (c : tie.Start) (i : ℕ) → Fits w8 (getD (c .args .statuses) i 
 status-fits c i = search needs
 
 -- only 14 is left to refuse the line
-inside-limits : (c : tie.Else1) → let a = c .before .before .before .args in outside (a .ordinal) (a .readings) (a .totals) ≡ false
+inside-limits : (c : tie.Else1) → let a = c .before .before .before .args in outside (a .ordinal .0) (a .readings) (a .totals) ≡ false
 inside-limits c = sym (c .before .outside .ensures) ∙ c .if1 .left
 
 short : (c : tie.Else1) → length (line (c .before .before .before)) ≤ longestLine
 short c =
     let s = c .before .before .before in
     let a = s .args in
-    let h = inside (a .ordinal) (a .readings) (a .totals) (inside-limits c) in
-    shown-longest (a .shown) (a .ordinal) (a .counter) (a .latency) (a .gap) (a .readings) (a .statuses) (a .totals)
+    let h = inside (a .ordinal .0) (a .readings) (a .totals) (inside-limits c) in
+    shown-longest (a .shown) (a .ordinal .0) (a .counter) (a .latency) (a .gap) (a .readings) (a .statuses) (a .totals)
     (omega arith) (omega arith) (omega arith) (gap-fits s) (λ i. status-fits s i .fits) (h .0) (h .1)
 
 outside-requires : tie.Need-outside-requires
@@ -52,7 +52,7 @@ outside-requires c κs = search needs
 returns : tie.Need-returns
 returns c =
     let a = c .before .before .before .args in
-    values-refused (a .buffer .now) (a .shown) (a .ordinal) (a .counter) (a .latency) (a .gap) (a .readings) (a .statuses) (a .totals) (sym (c .before .outside .ensures) ∙ c .if1 .taken)
+    values-refused (a .buffer .now) (a .shown) (a .ordinal .0) (a .counter) (a .latency) (a .gap) (a .readings) (a .statuses) (a .totals) (sym (c .before .outside .ensures) ∙ c .if1 .taken)
 
 longest-line-requires : tie.Need-longest-line-requires
 longest-line-requires c κs = search needs
@@ -67,7 +67,7 @@ returns-2 : tie.Need-returns-2
 returns-2 c =
     let e = c .before .before .before .before .before .before in
     let a = e .before .before .before .args in
-    apart-written (a .buffer .now) (a .shown) (a .ordinal) (a .counter) (a .latency) (a .gap) (a .readings) (a .statuses) (a .totals) (inside-limits e)
+    apart-written (a .buffer .now) (a .shown) (a .ordinal .0) (a .counter) (a .latency) (a .gap) (a .readings) (a .statuses) (a .totals) (inside-limits e)
     (c .before .before .write-apart .ensures)
 
 put-line-requires : tie.Need-put-line-requires
@@ -80,7 +80,7 @@ returns-3 : tie.Need-returns-3
 returns-3 c =
     let e = c .before .before .before .before .before .before in
     let a = e .before .before .before .args in
-    put-written (a .buffer .now) (a .shown) (a .ordinal) (a .counter) (a .latency) (a .gap) (a .readings) (a .statuses) (a .totals) (inside-limits e)
+    put-written (a .buffer .now) (a .shown) (a .ordinal .0) (a .counter) (a .latency) (a .gap) (a .readings) (a .statuses) (a .totals) (inside-limits e)
     (omega (arith, short e, c .before .before .before .before .before .longest-line .ensures, c .before .before .before .before .if2 .left))
     (c .before .before .put-line .ensures)
 
