@@ -18,6 +18,7 @@ ghost use Rattle.lines.specs.PieceParts.{lookedUp, nextLine, startOf, ne
 use admission::Admission;
 use feeding::Answer;
 use feeding::Datagram;
+use gaps::Datagrams;
 use gaps::Gap;
 use history::History;
 use motion::Totals;
@@ -75,7 +76,7 @@ fn put_behind(
     buffer: &mut [u8],
     used: usize,
     shown: Shown,
-    ordinal: u64,
+    ordinal: Datagrams,
     counter: u8,
     latency: u16,
     gap: Gap,
@@ -83,8 +84,8 @@ fn put_behind(
     statuses: [u8; 3],
     totals: Totals,
 ) -> usize
-    requires { ⌜ outside ordinal readings totals ≡ false ⌝ ∗ ⌜ used + length (shownText shown ordinal counter latency gap readings statuses totals) ≤ length (now buffer) ⌝ }
-    ensures { λ r. ⌜ Put (now (buffer .entry)) used (shownText shown ordinal counter latency gap readings statuses totals) (now (buffer .exit)) r ⌝ }
+    requires { ⌜ outside (ordinal .0) readings totals ≡ false ⌝ ∗ ⌜ used + length (shownText shown (ordinal .0) counter latency gap readings statuses totals) ≤ length (now buffer) ⌝ }
+    ensures { λ r. ⌜ Put (now (buffer .entry)) used (shownText shown (ordinal .0) counter latency gap readings statuses totals) (now (buffer .exit)) r ⌝ }
 {
     let written = text_line::write_shown(
         &mut buffer[used..],
@@ -126,7 +127,7 @@ fn one_line(
     let latency = wire::latency(row, d);
     let gap = history::gap_before(rate, before, counter);
     let history = history::advance(kept, before, readings, statuses, counter);
-    let ordinal = history.datagrams.0;
+    let ordinal = history.datagrams;
     let axes = history.axes;
     let totals = motion::totals_of(axes);
     let used = put_behind(
@@ -229,9 +230,9 @@ fn lines_of(
 }
 
 // The line of a datagram that came back, at the front of the buffer.
-fn first_line(shown: Shown, ordinal: u64, datagram: Datagram, buffer: &mut [u8]) -> usize
-    requires { ⌜ outside ordinal (datagram .gyro ∷ datagram .accelerometer ∷ datagram .inclinometer ∷ []) (datagram .totals) ≡ false ⌝ ∗ ⌜ length (lineBy shown ordinal datagram) ≤ length (now buffer) ⌝ }
-    ensures { λ r. ⌜ Put (now (buffer .entry)) 0 (lineBy shown ordinal datagram) (now (buffer .exit)) r ⌝ }
+fn first_line(shown: Shown, ordinal: Datagrams, datagram: Datagram, buffer: &mut [u8]) -> usize
+    requires { ⌜ outside (ordinal .0) (datagram .gyro ∷ datagram .accelerometer ∷ datagram .inclinometer ∷ []) (datagram .totals) ≡ false ⌝ ∗ ⌜ length (lineBy shown (ordinal .0) datagram) ≤ length (now buffer) ⌝ }
+    ensures { λ r. ⌜ Put (now (buffer .entry)) 0 (lineBy shown (ordinal .0) datagram) (now (buffer .exit)) r ⌝ }
 {
     let gyro = datagram.gyro;
     let accelerometer = datagram.accelerometer;
@@ -268,7 +269,7 @@ fn lines_behind(session: Session, known: LookedUp, piece: &[u8], buffer: &mut [u
         Answer::Datagram => {
             let datagram = reply.datagram;
             let history = next.history;
-            let used = first_line(shown, history.datagrams.0, datagram, buffer);
+            let used = first_line(shown, history.datagrams, datagram, buffer);
             lines_of(next, known, piece, taken, used, buffer)
         }
         Answer::Waiting => Batch {

@@ -44,51 +44,51 @@ kept : (s : tie.Start) → s .args .known .shown .kept ≡ groupsKept (s .args .
 unfolding shownBy
 kept s = ap (λ (k : LookedUp). k .shown .kept) (s .pre .1 .1)
 
-read-counter : (c : tie.After-put-behind-arg) → let a = c .before .before .before .before .before .before .before .before .before .before .before .before .before .before .before .before .args in c .before .before .before .before .before .before .counter .result ≡ fieldsOf (a .known .setup .identifier) (a .d .now) .counter
-read-counter c = c .before .before .before .before .before .before .counter .ensures ∙ ap (λ (x : Contents). x .counter) (inside (c .before .before .before .before .before .before .before .before .before .before .before .before .before .before .before .before))
+read-counter : (c : tie.After-put-behind-arg) → let a = c .before .before .before .before .before .before .before .before .before .before .before .before .before .before .before .before .before .args in c .before .before .before .before .before .before .before .counter .result ≡ fieldsOf (a .known .setup .identifier) (a .d .now) .counter
+read-counter c = c .before .before .before .before .before .before .before .counter .ensures ∙ ap (λ (x : Contents). x .counter) (inside (c .before .before .before .before .before .before .before .before .before .before .before .before .before .before .before .before .before))
 
-read-latency : (c : tie.After-put-behind-arg) → let a = c .before .before .before .before .before .before .before .before .before .before .before .before .before .before .before .before .args in c .before .before .before .before .before .latency .result ≡ fieldsOf (a .known .setup .identifier) (a .d .now) .latency
-read-latency c = c .before .before .before .before .before .latency .ensures ∙ ap (λ (x : Contents). x .latency) (inside (c .before .before .before .before .before .before .before .before .before .before .before .before .before .before .before .before))
+read-latency : (c : tie.After-put-behind-arg) → let a = c .before .before .before .before .before .before .before .before .before .before .before .before .before .before .before .before .before .args in c .before .before .before .before .before .before .latency .result ≡ fieldsOf (a .known .setup .identifier) (a .d .now) .latency
+read-latency c = c .before .before .before .before .before .before .latency .ensures ∙ ap (λ (x : Contents). x .latency) (inside (c .before .before .before .before .before .before .before .before .before .before .before .before .before .before .before .before .before))
 
-read-readings : (c : tie.After-put-behind-arg) → let a = c .before .before .before .before .before .before .before .before .before .before .before .before .before .before .before .before .args in c .before .before .before .before .before .before .before .before .readings .result ≡ fieldsOf (a .known .setup .identifier) (a .d .now) .readings
-read-readings c = c .before .before .before .before .before .before .before .before .readings .ensures ∙ ap (λ (x : Contents). x .readings) (inside (c .before .before .before .before .before .before .before .before .before .before .before .before .before .before .before .before))
+read-readings : (c : tie.After-put-behind-arg) → let a = c .before .before .before .before .before .before .before .before .before .before .before .before .before .before .before .before .before .args in c .before .before .before .before .before .before .before .before .before .readings .result ≡ fieldsOf (a .known .setup .identifier) (a .d .now) .readings
+read-readings c = c .before .before .before .before .before .before .before .before .before .readings .ensures ∙ ap (λ (x : Contents). x .readings) (inside (c .before .before .before .before .before .before .before .before .before .before .before .before .before .before .before .before .before))
 
-read-statuses : (c : tie.After-put-behind-arg) → let a = c .before .before .before .before .before .before .before .before .before .before .before .before .before .before .before .before .args in c .before .before .before .before .before .before .before .statuses .result ≡ fieldsOf (a .known .setup .identifier) (a .d .now) .statuses
-read-statuses c = c .before .before .before .before .before .before .before .statuses .ensures ∙ ap (λ (x : Contents). x .statuses) (inside (c .before .before .before .before .before .before .before .before .before .before .before .before .before .before .before .before))
+read-statuses : (c : tie.After-put-behind-arg) → let a = c .before .before .before .before .before .before .before .before .before .before .before .before .before .before .before .before .before .args in c .before .before .before .before .before .before .before .before .statuses .result ≡ fieldsOf (a .known .setup .identifier) (a .d .now) .statuses
+read-statuses c = c .before .before .before .before .before .before .before .before .statuses .ensures ∙ ap (λ (x : Contents). x .statuses) (inside (c .before .before .before .before .before .before .before .before .before .before .before .before .before .before .before .before .before))
 
 -- the history behind the datagram, its count and its totals
-moved : (c : tie.After-put-behind-arg) → let s = c .before .before .before .before .before .before .before .before .before .before .before .before .before .before .before .before in c .before .before .before .advance .result ≡ nextHistory (s .args .known .setup) (s .pre .0 .accepted) (s .args .progress .history) (s .args .d .now)
+moved : (c : tie.After-put-behind-arg) → let s = c .before .before .before .before .before .before .before .before .before .before .before .before .before .before .before .before .before in c .before .before .before .before .advance .result ≡ nextHistory (s .args .known .setup) (s .pre .0 .accepted) (s .args .progress .history) (s .args .d .now)
 moved c =
-    let s = c .before .before .before .before .before .before .before .before .before .before .before .before .before .before .before .before in
+    let s = c .before .before .before .before .before .before .before .before .before .before .before .before .before .before .before .before .before in
     let a = s .args in
-    c .before .before .before .advance .ensures
+    c .before .before .before .before .advance .ensures
     ∙ (λ i. advanced (kept s i) (a .progress .history) (read-readings c i) (read-statuses c i) (read-counter c i))
     ∙ advanced-next (groupsKept (a .known .setup)) (a .progress .history) _ _ _ (omega (arith, few s))
 
-ordinal-is : (c : tie.After-put-behind-arg) → c .before .before .before .advance .result .datagrams .0 ≡ suc (c .before .before .before .before .before .before .before .before .before .before .before .before .before .before .before .before .args .progress .history .datagrams .0)
+ordinal-is : (c : tie.After-put-behind-arg) → c .before .before .before .before .advance .result .datagrams .0 ≡ suc (c .before .before .before .before .before .before .before .before .before .before .before .before .before .before .before .before .before .args .progress .history .datagrams .0)
 unfolding historyNext
-ordinal-is c = ap (λ (h : History). h .datagrams .0) (moved c) ∙ add-one (c .before .before .before .before .before .before .before .before .before .before .before .before .before .before .before .before .args .progress .history .datagrams .0)
+ordinal-is c = ap (λ (h : History). h .datagrams .0) (moved c) ∙ add-one (c .before .before .before .before .before .before .before .before .before .before .before .before .before .before .before .before .before .args .progress .history .datagrams .0)
 
-totals-are : (c : tie.After-put-behind-arg) → let s = c .before .before .before .before .before .before .before .before .before .before .before .before .before .before .before .before in c .before .totals-of .result ≡ totalsOf (nextHistory (s .args .known .setup) (s .pre .0 .accepted) (s .args .progress .history) (s .args .d .now) .axes)
+totals-are : (c : tie.After-put-behind-arg) → let s = c .before .before .before .before .before .before .before .before .before .before .before .before .before .before .before .before .before in c .before .totals-of .result ≡ totalsOf (nextHistory (s .args .known .setup) (s .pre .0 .accepted) (s .args .progress .history) (s .args .d .now) .axes)
 totals-are c = c .before .totals-of .ensures ∙ ap (λ (h : History). totalsOf (h .axes)) (moved c)
 
-gap-is : (c : tie.After-put-behind-arg) → let s = c .before .before .before .before .before .before .before .before .before .before .before .before .before .before .before .before in c .before .before .before .before .gap-before .result ≡ gapIn (s .args .known .setup) (s .pre .0 .accepted) (s .args .progress .history) (s .args .d .now)
+gap-is : (c : tie.After-put-behind-arg) → let s = c .before .before .before .before .before .before .before .before .before .before .before .before .before .before .before .before .before in c .before .before .before .before .before .gap-before .result ≡ gapIn (s .args .known .setup) (s .pre .0 .accepted) (s .args .progress .history) (s .args .d .now)
 gap-is c =
-    let s = c .before .before .before .before .before .before .before .before .before .before .before .before .before .before .before .before in
+    let s = c .before .before .before .before .before .before .before .before .before .before .before .before .before .before .before .before .before in
     let a = s .args in
     let h = a .progress .history in
-    c .before .before .before .before .gap-before .ensures
+    c .before .before .before .before .before .gap-before .ensures
     ∙ (λ i. gapNext (s .pre .1 .1 i .sensor .rate) h (read-counter c i))
     ∙ accepted-gap (a .known .setup) (s .pre .0 .accepted) (awaitsFirst h) (h .previous) _
 
 -- what is written is the next line
 lined :
     (c : tie.After-put-behind-arg)
-    → let a = c .before .before .before .before .before .before .before .before .before .before .before .before .before .before .before .before .args in
-    shownText (a .known .shown) (c .before .before .before .advance .result .datagrams .0) (c .before .before .before .before .before .before .counter .result) (c .before .before .before .before .before .latency .result) (c .before .before .before .before .gap-before .result) (c .before .before .before .before .before .before .before .before .readings .result) (c .before .before .before .before .before .before .before .statuses .result) (c .before .totals-of .result)
+    → let a = c .before .before .before .before .before .before .before .before .before .before .before .before .before .before .before .before .before .args in
+    shownText (a .known .shown) (c .before .before .before .before .advance .result .datagrams .0) (c .before .before .before .before .before .before .before .counter .result) (c .before .before .before .before .before .before .latency .result) (c .before .before .before .before .before .gap-before .result) (c .before .before .before .before .before .before .before .before .before .readings .result) (c .before .before .before .before .before .before .before .before .statuses .result) (c .before .totals-of .result)
     ≡ nextLine (a .known .setup) (a .progress .history) (a .d .now)
 lined c =
-    let s = c .before .before .before .before .before .before .before .before .before .before .before .before .before .before .before .before in
+    let s = c .before .before .before .before .before .before .before .before .before .before .before .before .before .before .before .before .before in
     let a = s .args in
     (λ i.
     shownText (s .pre .1 .1 i .shown) (ordinal-is c i) (read-counter c i) (read-latency c i) (gap-is c i) (read-readings c i)
@@ -119,7 +119,7 @@ totals-of-requires c κs = search needs
 
 put-behind-requires : tie.Need-put-behind-requires
 put-behind-requires c κs =
-    let s = c .before .before .before .before .before .before .before .before .before .before .before .before .before .before .before .before in
+    let s = c .before .before .before .before .before .before .before .before .before .before .before .before .before .before .before .before .before in
     let a = s .args in
     let u = a .known .setup in
     let R = s .pre .0 in
@@ -129,13 +129,13 @@ put-behind-requires c κs =
     )
 
 add-t25 : tie.Need-add-t25
-add-t25 c = omega (arith, c .before .before .before .before .before .before .before .before .before .before .before .before .before .before .before .before .before .before .before .before .pre .0 .passed)
+add-t25 c = omega (arith, c .before .before .before .before .before .before .before .before .before .before .before .before .before .before .before .before .before .before .before .before .before .pre .0 .passed)
 
 add-t27 : tie.Need-add-t27
-add-t27 c = omega (arith, c .before .before .before .before .before .before .before .before .before .before .before .before .before .before .before .before .before .before .before .before .pre .0 .most)
+add-t27 c = omega (arith, c .before .before .before .before .before .before .before .before .before .before .before .before .before .before .before .before .before .before .before .before .before .pre .0 .most)
 
 add-t28 : tie.Need-add-t28
-add-t28 c = omega (arith, c .before .before .before .before .before .before .before .before .before .before .before .before .before .before .before .before .before .before .before .before .before .pre .0 .most)
+add-t28 c = omega (arith, c .before .before .before .before .before .before .before .before .before .before .before .before .before .before .before .before .before .before .before .before .before .before .pre .0 .most)
 
 same-length : tie.Need-same-length
 same-length c = search needs
@@ -143,7 +143,7 @@ same-length c = search needs
 returns : tie.Need-returns
 unfolding nextOf
 returns c =
-    let s = c .before .before .before .before .before .before .before .before .before .before .before .before .before .before .before .before .before .before .before .before .before in
+    let s = c .before .before .before .before .before .before .before .before .before .before .before .before .before .before .before .before .before .before .before .before .before .before in
     let a = s .args in
     let h = c .before .before .before .before .before in
     let w = c .before .before .before .before .put-behind .ensures in

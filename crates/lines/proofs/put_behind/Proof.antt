@@ -14,7 +14,7 @@ use Rattle.lines.proofs.put_behind.Statement.{statement}
 use Rattle.lines.proofs.put_behind.Tie as tie
 
 abbrev line : tie.Start → List ℕ
-line s = shownText (s .args .shown) (s .args .ordinal) (s .args .counter) (s .args .latency) (s .args .gap) (s .args .readings) (s .args .statuses) (s .args .totals)
+line s = shownText (s .args .shown) (s .args .ordinal .0) (s .args .counter) (s .args .latency) (s .args .gap) (s .args .readings) (s .args .statuses) (s .args .totals)
 
 -- the part of the buffer behind what is written
 abbrev part : tie.Start → List ℕ
@@ -30,7 +30,7 @@ written : (c : tie.After-write-shown) →
 written c =
     let s = c .before .before .before in
     let a = s .args in
-    shown-written (part s) (a .shown) (a .ordinal) (a .counter) (a .latency) (a .gap) (a .readings) (a .statuses) (a .totals) (s .pre .0) (c .write-shown .ensures)
+    shown-written (part s) (a .shown) (a .ordinal .0) (a .counter) (a .latency) (a .gap) (a .readings) (a .statuses) (a .totals) (s .pre .0) (c .write-shown .ensures)
     (room s)
 
 told : (c : tie.After-known-told) → c .before .written .given .0 .0 ≡ length (line (c .before .before .before .before .before .before .before .before))
