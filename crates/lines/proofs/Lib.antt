@@ -4,3 +4,4 @@ pub mod LoopInvariant
 pub mod HeldFirst
 pub mod Batches
 pub mod OneByOne
+pub mod WholePieces

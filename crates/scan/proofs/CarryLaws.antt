@@ -1,9 +1,9 @@
--- Laws of a session that carries more than the scan: a refused call, and what comes back with each datagram by its place.
+-- Laws of a session that carries more than the scan: a refused call, what is carried, and what comes back with each datagram by its place.
 -- Assumes nothing.
 use Prim.Native.Nat.{ℕ, zero, suc, _+_, _*_, _≤_, _<_}
 use mathlib.Core.Path.{_≡_, refl, sym, ap}
 use mathlib.Core.Bool.{Bool, true, false}
-use mathlib.Core.List.{List, [], _∷_}
+use mathlib.Core.List.{List, [], _∷_, _++_}
 use native.Mathlib.Nat.{add-zero, mul-add, mul-one, mul-zero}
 use native.Mathlib.Numerals.{add-one}
 use native.Mathlib.Omega.{arith}
@@ -37,6 +37,12 @@ module _ {X O : Type 0} (K : Consumer X O) where
       → carrying K s (feed R ok (s .scan) p) ≡ refusing n s
   session-refused R ok s p e =
       ap (carrying K s) (refused-same R (s .scan) p ok (reply-refused (s .carried) (feed R ok (s .scan) p .answer) e))
+
+  -- what is carried after one list of datagrams and then another
+  pub carried-append : (x : X) (ds es : List (List ℕ)) → carriedAfter K x (ds ++ es) ≡ carriedAfter K (carriedAfter K x ds) es
+  unfolding carriedAfter
+  carried-append x [] es = refl
+  carried-append x (d ∷ ds) es = carried-append (steps K x d) ds es
 
   -- what comes back with the datagram at a place: of what is carried after those before it
   pub told-at :

@@ -25,6 +25,10 @@ passing-zero r = ap (λ (k : ℕ). record { datagrams = r .datagrams; passed = k
 passing-passing : (m n : ℕ) (r : Scanned) → passing m (passing n r) ≡ passing (m + n) r
 passing-passing m n r = rw add-assoc
 
+-- what two scans give, one after the other
+abbrev pub followed : Scanned → Scanned → Scanned
+followed f g = record { datagrams = f .datagrams ++ g .datagrams; passed = f .passed + g .passed; held = g .held }
+
 module _ (verdict : List ℕ → Verdict) where
   -- what the scan up to its first datagram finds of more bytes v, of what it found before them
   abbrev pub onward : First → List ℕ → First
@@ -144,6 +148,30 @@ module _ (verdict : List ℕ → Verdict) where
         (u v : List ℕ) {n : ℕ} {d r : List ℕ} → first verdict u ≡ finds n d r
         → scan verdict (u ++ v) ≡ passing n (handing d (scan verdict (r ++ v)))
     scan-finds u v e = scan-first (u ++ v) ∙ ap unrolled (first-append u v) ∙ ap (λ (f : First). unrolled (onward f v)) e
+
+    append-from :
+        (k : ℕ) (u v : List ℕ) → k ≤ length u
+        → scanFrom verdict k (u ++ v) ≡ followed (scanFrom verdict k u) (scan verdict (scanFrom verdict k u .held ++ v))
+    unfolding scanFrom
+    append-from zero [] v h = sym (passing-zero (scan verdict v))
+    append-from (suc k) [] v h = absurd (omega arith)
+    append-from (suc k) (b ∷ u) v h = append-from k u v (omega arith)
+    append-from zero (b ∷ u) v h = go (verdict (b ∷ u)) refl (λ (k : ℕ) (l : k ≤ length u). append-from k u v l)
+      where
+        go :
+            (w : Verdict) → verdict (b ∷ u) ≡ w
+            → ((k : ℕ) → k ≤ length u → scanFrom verdict k (u ++ v) ≡ followed (scanFrom verdict k u) (scan verdict (scanFrom verdict k u .held ++ v)))
+            → scan verdict (b ∷ u ++ v) ≡ followed (scan verdict (b ∷ u)) (scan verdict (scan verdict (b ∷ u) .held ++ v))
+        go waits e on = rw e (sym (passing-zero (scan verdict (b ∷ u ++ v))))
+        go passes e on = rw (e, S .passes-on (b ∷ u) v e) (ap (passing 1) (on 0 (omega arith)) ∙ rw add-assoc)
+        go (hands zero) e on = absurd (let h : 1 ≤ 0 = S .some (b ∷ u) zero e in omega arith)
+        go (hands (suc n)) e on =
+            let h : suc n ≤ length (b ∷ u) = S .there (b ∷ u) (suc n) e in
+            rw (e, S .hands-on (b ∷ u) v (suc n) e, take-append-le (suc n) (b ∷ u) v h) (ap (handing (take (suc n) (b ∷ u))) (on n (omega arith)))
+
+    -- The whole scan of a stream that is cut: it goes on from what it holds at the cut
+    pub scan-append : (u v : List ℕ) → scan verdict (u ++ v) ≡ followed (scan verdict u) (scan verdict (scan verdict u .held ++ v))
+    scan-append u v = append-from 0 u v (omega arith)
 
     -- How the bytes u are parted by what the scan finds first in them
     abbrev pub Parted : List ℕ → First → Type 0
