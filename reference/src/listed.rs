@@ -8,7 +8,7 @@ use crate::layout::datagram_length;
 use crate::line::Line;
 use crate::session::{feed, Answer, Axis, Outcome, Session};
 use crate::setup::Setup;
-use crate::whole_piece::ROOM_FOR_LINES;
+use crate::whole_piece::{lines_of, ROOM_FOR_LINES};
 use crate::{Refusal, LOWEST_READING, PIECE_LIMIT, STREAM_LIMIT};
 
 /// A line for each case; the head of the file says how they are written.
@@ -226,8 +226,9 @@ const WIDEST: Setup = Setup {
     shifts: [21, 22, 23],
 };
 
-/// Whole pieces: buffers about 72,000 bytes, each refusal and their order,
-/// bytes held before and after, datagrams behind damaged ones and inside them.
+/// Whole pieces: buffers about as long as their lines, each refusal and their
+/// order, bytes held before and after, datagrams behind damaged ones and inside
+/// them.
 pub fn whole_pieces() -> Vec<Call> {
     let mut calls = Vec::new();
     let mut add = |session: &Session, piece: &[u8], room: usize, fill: u8| {
@@ -244,8 +245,16 @@ pub fn whole_pieces() -> Vec<Call> {
     let first = turn(&EXAMPLE, 2, 8_388_600);
     let second = turn(&EXAMPLE, 4, -8_388_600);
     let two = [first.clone(), second.clone()].concat();
+    let one_line = length_of_lines(&example, &first);
+    let two_lines = length_of_lines(&example, &two);
     for room in [room, room - 1, room + 1, 36_000, 400, 1, 0] {
         add(&example, &two, room, 0xEE);
+    }
+    // Buffers about as long as the lines, and as the first of them.
+    for exact in [one_line, two_lines] {
+        for room in [exact - 1, exact, exact + 1] {
+            add(&example, &two, room, 0xEE);
+        }
     }
     // A buffer that is filled with what lines are made of.
     for fill in [0x00, 0x0A, 0x2C, 0x31, 0xFF] {
@@ -255,7 +264,8 @@ pub fn whole_pieces() -> Vec<Call> {
     let held = feed(&example, &first[..17]).session;
     add(&example, &[], room, 0xEE);
     add(&held, &[], room, 0xEE);
-    add(&example, &[], room - 1, 0xEE);
+    add(&example, &[], 0, 0xEE);
+    add(&held, &[], 0, 0xEE);
     // Held bytes that the piece completes, or doesn't, or shows to be none.
     add(&held, &first[17..], room, 0xEE);
     add(
@@ -265,6 +275,10 @@ pub fn whole_pieces() -> Vec<Call> {
         0xEE,
     );
     add(&held, &two, room, 0xEE);
+    for room in [one_line - 1, one_line, one_line + 1] {
+        add(&held, &first[17..], room, 0xEE);
+    }
+    add(&held, &first[5..6], 0, 0xEE);
     let begun = feed(&example, &first[..1]).session;
     for end in [2, 17, 18, 19, 35, 36] {
         add(&begun, &two[1..end], room, 0xEE);
@@ -342,12 +356,19 @@ pub fn whole_pieces() -> Vec<Call> {
             encode(&WIDEST, &fields)
         })
         .collect();
-    add(&far, &wide, room, 0xEE);
+    let widest = length_of_lines(&far, &wide);
+    for room in [room, widest - 1, widest, widest + 1] {
+        add(&far, &wide, room, 0xEE);
+    }
     // As many datagrams as 4,096 bytes and the held ones complete.
     let many: Vec<u8> = (0..=228_u8)
         .flat_map(|place| turn(&EXAMPLE, place.wrapping_mul(2), 7))
         .collect();
-    add(&held, &many[17..17 + PIECE_LIMIT], room, 0xEE);
+    let most = &many[17..17 + PIECE_LIMIT];
+    let most_lines = length_of_lines(&held, most);
+    for room in [room, most_lines - 1, most_lines] {
+        add(&held, most, room, 0xEE);
+    }
     // 10, whatever else is wrong; 11, 12 and 14 in this order.
     let long = vec![0; PIECE_LIMIT + 1];
     let full = passed_over(&example, STREAM_LIMIT);
@@ -363,8 +384,9 @@ pub fn whole_pieces() -> Vec<Call> {
         (&full, &two[..1], room),
         (&full, &two[..1], room - 1),
         (&full, &[][..], room),
-        (&full, &[][..], room - 1),
+        (&full, &[][..], 0),
         (&passed_over(&example, STREAM_LIMIT - 36), &two[..], room),
+        (&passed_over(&example, STREAM_LIMIT - 36), &two[..], 0),
         (&passed_over(&example, STREAM_LIMIT - 35), &two[..], room),
         (&passed_over(&example, STREAM_LIMIT - 35), &two[..], 0),
     ] {
@@ -379,6 +401,12 @@ pub fn whole_pieces() -> Vec<Call> {
     unbegun.axes[0][0].last_fit_reading = 1;
     add(&unbegun, &two, room, 0xEE);
     calls
+}
+
+/// How many bytes the lines of a piece have.
+fn length_of_lines(session: &Session, piece: &[u8]) -> usize {
+    let (lines, _) = lines_of(session, piece).expect("feeding doesn't refuse it");
+    lines.len()
 }
 
 /// A session that passed over so many bytes.

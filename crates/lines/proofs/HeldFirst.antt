@@ -34,7 +34,7 @@ use Rattle.feeding.proofs.CallParts.{count-less}
 use Rattle.feeding.proofs.OneLength.{fed-at-once}
 use Rattle.lines.specs.declared.Received.the-variants.{Lines}
 use Rattle.lines.specs.declared.Batch.{Batch}
-use Rattle.lines.specs.Lines.{lineOf, foundIn, enough}
+use Rattle.lines.specs.Lines.{lineOf, foundIn, roomFor}
 use Rattle.lines.specs.PieceParts.{startOf, nextLine, textOf, batchBy, Ready, scanAt, Answered, Permitted}
 use Rattle.lines.proofs.NextLines.{right-next, line-inside, line-short, text-none, text-more}
 use Rattle.integers.proofs.Buffers.{sets-append}
@@ -149,7 +149,7 @@ module _ (s : Session) (p : List ℕ) (room : ℕ) (a : Permitted s (length p) r
 
     -- the piece can be gone through behind it
     pub first-ready :
-        (used width : ℕ) → used ≤ longestLine → enough ≤ width
+        (used width : ℕ) → used ≤ longestLine → roomFor (length p) ≤ width
         → Ready (turn .session .setup) (startOf (turn .session) (turn .taken) used) (length p) width
     unfolding replyAfter historyAfter historyNext
     first-ready used width l w =

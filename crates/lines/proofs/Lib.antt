@@ -1,6 +1,7 @@
 -- Laws of the lines of a piece.
 pub mod NextLines
 pub mod LoopInvariant
+pub mod LongestLines
 pub mod HeldFirst
 pub mod Batches
 pub mod OneByOne

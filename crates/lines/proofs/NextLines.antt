@@ -2,7 +2,7 @@
 use Prim.Native.Nat.{ℕ, suc, _-_, _/_, _%_, _^_, _≤_, _<_}
 use mathlib.Core.Path.{_≡_, refl, sym, ap, subst}
 use mathlib.Core.Bool.{Bool, true, false, cond, _&&_, _||_}
-use mathlib.Core.List.{List, [], _++_}
+use mathlib.Core.List.{List, [], _∷_, _++_}
 use native.Mathlib.Nat.{div-le-self}
 use native.Mathlib.Numerals.{add-one}
 use native.Mathlib.Omega.{arith}
@@ -139,8 +139,15 @@ pub text-none : (u : Setup) (k : History) (n : ℕ) (h : List ℕ) → textOf u 
 unfolding textOf told linesAfter
 text-none u k n h = refl
 
--- the line of its first, and those of the others
+-- of the first of some datagrams, and those of the others
+pub lines-more :
+    (u : Setup) (k : History) (d : List ℕ) (ds : List (List ℕ))
+    → linesAfter u (k .datagrams .0) (told (consumer u) k (d ∷ ds))
+    ≡ nextLine u k d ++ linesAfter u (steps (consumer u) k d .datagrams .0) (told (consumer u) (steps (consumer u) k d) ds)
+unfolding nextLine told linesAfter historyAfter historyNext
+lines-more u k d ds =
+    ap (λ (m : ℕ). nextLine u k d ++ linesAfter u m (told (consumer u) (steps (consumer u) k d) ds)) (sym (add-one (k .datagrams .0)))
+
 pub text-more : (u : Setup) (k : History) (n : ℕ) (d : List ℕ) (g : Scanned) → textOf u k (passing n (handing d g)) ≡ nextLine u k d ++ textOf u (steps (consumer u) k d) g
-unfolding textOf nextLine told linesAfter historyAfter historyNext
-text-more u k n d g =
-    ap (λ (m : ℕ). nextLine u k d ++ linesAfter u m (told (consumer u) (steps (consumer u) k d) (g .datagrams))) (sym (add-one (k .datagrams .0)))
+unfolding textOf
+text-more u k n d g = lines-more u k d (g .datagrams)

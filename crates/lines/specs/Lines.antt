@@ -1,13 +1,13 @@
 -- What feeding a piece to its end and writing a line for each datagram gives, at once.
-use Prim.Native.Nat.{ℕ, suc, _+_}
+use Prim.Native.Nat.{ℕ, suc, _+_, _*_, _/_}
 use mathlib.Core.List.{List, [], _∷_, _++_}
-use lib.Dec.{ltb}
+use mathlib.Core.Option.{Option, none, some}
 use lib.ListN.{length, drop}
-use Rattle.setup.specs.Setup.{Rule, rule, firstOf}
+use Rattle.setup.specs.Setup.{Rule, firstOf}
 use Rattle.setup.specs.declared.Setup.{Setup}
 use Rattle.setup.specs.declared.Ruling as ruling
 use Rattle.setup.specs.declared.Ruling.{Ruling}
-use Rattle.text_line.specs.ShownLine.{shownText}
+use Rattle.text_line.specs.ShownLine.{shownText, roomRules, longestLine}
 use Rattle.text.specs.TextLine.{shownBy}
 use Rattle.text_line.specs.declared.Shown.{Shown}
 use Rattle.scan.specs.Scan.{Scanned, scan}
@@ -62,11 +62,15 @@ behind s p =
       carried = carriedAfter (consumer (s .setup)) (stateOf s .carried) (foundIn s p .datagrams);
     }
 
--- a buffer of so many bytes is long enough for the lines of any piece
+-- a buffer of so many bytes is long enough for the lines of a piece of n bytes: with the held ones, 64 at most, it completes (n + 64) / 18 datagrams at most
+abbrev pub roomFor : ℕ → ℕ
+roomFor n = (n + 64) / 18 * longestLine
+
+-- and for those of any piece
 abbrev pub enough : ℕ
 enough = 72000
 
--- the answer: refused by 10, 11 or 12 as by feed, by 14 where the buffer may be shorter than the lines; or the lines
+-- the answer: refused by 10, 11 or 12 as by feed, by 14 where the buffer is shorter than the lines; or the lines
 abbrev pub refusing : Session → ℕ → Batch
 refusing s n = record { answer = Refused n; session = s }
 
@@ -74,11 +78,20 @@ abbrev pub batchWith : Ruling → Session → List ℕ → Batch
 batchWith ruling.the-variants.Accepted s p = record { answer = Lines (length (linesIn s p)); session = sessionOf (s .setup) (behind s p) }
 batchWith (ruling.the-variants.Refused n) s p = refusing s n
 
-abbrev pub batchRules : Session → ℕ → ℕ → List Rule
-batchRules s n room = pieceRules s n ++ rule 14 (ltb room enough) ∷ []
+abbrev pub batchRules : Session → List ℕ → ℕ → List Rule
+batchRules s p room = pieceRules s (length p) ++ roomRules (linesIn s p) room
 
 unfoldable pub batchOf : Session → List ℕ → ℕ → Batch
-batchOf s p room = batchWith (firstOf (batchRules s (length p) room)) s p
+batchOf s p room = batchWith (firstOf (batchRules s p room)) s p
+
+-- 01's number of an answer, none where the lines stand in the buffer; and how many bytes they have
+abbrev pub receivedNumber : Received → Option ℕ
+receivedNumber (Lines n) = none
+receivedNumber (Refused n) = some n
+
+abbrev pub receivedBytes : Received → ℕ
+receivedBytes (Lines n) = n
+receivedBytes (Refused n) = 0
 
 -- the buffer at exit: the lines from the front and every later byte as it was, or all as it was
 abbrev pub bufferBy : Received → List ℕ → List ℕ → List ℕ

@@ -20,7 +20,7 @@ use Rattle.admission.specs.Admission.{axesRight, pieceRuling}
 use Rattle.history.specs.declared.History.{History}
 use Rattle.session.specs.declared.Session.{Session}
 use Rattle.feeding.specs.Feed.{consumer, SessionState, stateOf, sessionOf}
-use Rattle.lines.specs.Lines.{lineOf, linesAfter, enough}
+use Rattle.lines.specs.Lines.{lineOf, linesAfter, roomFor}
 use Rattle.lines.specs.declared.Received.the-variants.{Lines}
 use Rattle.lines.specs.declared.Batch.{Batch}
 use Rattle.lines.specs.declared.LookedUp.{LookedUp}
@@ -109,7 +109,7 @@ pub record Answered (s : Session) (used : ℕ) (g : Scanned) (n : ℕ) (b b′ :
   pub text : b′ ≡ sets b used (textOf (s .setup) (stateOf s .carried) g)
   pub fits : used + length (textOf (s .setup) (stateOf s .carried) g) ≤ length b
 
--- nothing refuses the piece
+-- nothing refuses a piece of n bytes, whatever lines it has
 pub record Permitted (s : Session) (n room : ℕ) : Type 0 where
   pub admitted : pieceRuling s n ≡ Accepted
-  pub enough : enough ≤ room
+  pub enough : roomFor n ≤ room

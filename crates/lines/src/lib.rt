@@ -12,8 +12,9 @@ ghost use Rattle.text_line.specs.ShownLine.{shownText, outside};
 ghost use Rattle.text_line.specs.Putting.{Put};
 ghost use Rattle.scan.specs.Scan.{first};
 ghost use Rattle.search.specs.Search.{isDatagram, limitsOf, verdictOf, placeOf};
+ghost use Rattle.admission.specs.Admission.{pieceRuling};
 ghost use Rattle.history.specs.History.{greatestCount};
-ghost use Rattle.lines.specs.Lines.{lineBy, foundIn, refusing, batchOf, batchBuffer};
+ghost use Rattle.lines.specs.Lines.{lineBy, foundIn, roomFor, enough, refusing, batchOf, batchBuffer};
 ghost use Rattle.lines.specs.PieceParts.{lookedUp, nextLine, startOf, nextOf, stopped, scanAt, Ready, Finished, Answered, Permitted};
 use admission::Admission;
 use feeding::Answer;
@@ -307,6 +308,37 @@ fn looked_up(setup: Setup, sensor: Sensor) -> LookedUp
     }
 }
 
+// A buffer of so many bytes is long enough for the lines of a piece of so many.
+fn room_for(length: usize) -> usize
+    requires { ⌜ roomFor length ≤ enough ⌝ }
+    ensures { λ r. ⌜ r ≡ roomFor length ⌝ }
+{
+    (length + 64) / 18 * text_line::longest_line()
+}
+
+// A buffer that may be shorter than the lines of the piece: they are made apart from it, and copied to its front unless 14 refuses them.
+fn lines_apart(session: Session, known: LookedUp, piece: &[u8], buffer: &mut [u8]) -> Batch
+    requires { ⌜ pieceRuling session (length (now piece)) ≡ Accepted ⌝ ∗ ⌜ known ≡ lookedUp (session .setup) ⌝ }
+    ensures { λ r. ⌜ r ≡ batchOf session (now (piece .entry)) (length (now (buffer .entry))) ⌝ ∗ ⌜ now (buffer .exit) ≡ batchBuffer session (now (piece .entry)) (now (buffer .entry)) ⌝ }
+{
+    let mut apart = [0u8; ENOUGH];
+    let batch = all_lines(session, known, piece, &mut apart);
+    let answer = batch.answer;
+    let after = batch.session;
+    match answer {
+        Received::Lines(used) => {
+            if buffer.len() < used {
+                return refuse(session, 14);
+            }
+            Batch {
+                answer: Received::Lines(bytes::copy(&apart[..used], buffer)),
+                session: after,
+            }
+        }
+        Received::Refused(number) => refuse(session, number),
+    }
+}
+
 // A piece fed to its end, and the line of each datagram that it completes; or 10, 11, 12 or 14 refuses it and writes nothing.
 pub fn receive_lines(session: Session, piece: &[u8], buffer: &mut [u8]) -> Batch
     ensures { λ r. ⌜ r ≡ batchOf session (now (piece .entry)) (length (now (buffer .entry))) ⌝ ∗ ⌜ now (buffer .exit) ≡ batchBuffer session (now (piece .entry)) (now (buffer .entry)) ⌝ }
@@ -315,11 +347,11 @@ pub fn receive_lines(session: Session, piece: &[u8], buffer: &mut [u8]) -> Batch
     match admission {
         Admission::Refused(number) => refuse(session, number),
         Admission::Admitted(sensor) => {
-            if buffer.len() < ENOUGH {
-                return refuse(session, 14);
-            }
             let setup = session.setup;
             let known = looked_up(setup, sensor);
+            if buffer.len() < room_for(piece.len()) {
+                return lines_apart(session, known, piece, buffer);
+            }
             all_lines(session, known, piece, buffer)
         }
     }

@@ -18,7 +18,7 @@ use Rattle.stim_bench.specs.Bench.{Feedable, FedAtMost}
 
 module _ (s : Session) (p b : List ℕ) (F : Feedable s (length p)) (few : length p ≤ 4096) (room : enough ≤ length b) {r : Batch} (e : r ≡ batchOf s p (length b)) where
   permitted : Permitted s (length p) (length b)
-  permitted = record { admitted = admits s (length p) (record { sound = F .sound; piece = few; session = F .room }); enough = room }
+  permitted = record { admitted = admits s (length p) (record { sound = F .sound; piece = few; session = F .room }); enough = omega arith }
 
   pub fed-part : FedAtMost s (length p) (r .session)
   fed-part =

@@ -21,7 +21,7 @@ use stim_reference::program::{output_for, split_input};
 use stim_reference::random::Random;
 use stim_reference::session::{feed, judge_session, open_session, Axis, Outcome, Session};
 use stim_reference::setup::{judge_setup, read_setup_line, setup_line, Setup};
-use stim_reference::whole_piece::{receive_lines, ROOM_FOR_LINES};
+use stim_reference::whole_piece::{lines_of, receive_lines, ROOM_FOR_LINES};
 use stim_reference::{PIECE_LIMIT, STREAM_LIMIT};
 
 const EXAMPLE_LINE: &[u8] = b"1000,90,0,3,0,0,21,0,0";
@@ -445,17 +445,26 @@ fn whole_pieces() {
         while !rest.is_empty() {
             let (piece, behind) = rest.split_at(random.between(0, rest.len().min(PIECE_LIMIT)));
             let fill = random.byte();
-            let mut buffer = vec![fill; ROOM_FOR_LINES - random.below(2)];
+            let (whole, _) = lines_of(&session, piece).unwrap();
+            assert!(whole.len() <= ROOM_FOR_LINES);
+            let room = match random.below(4) {
+                0 => ROOM_FOR_LINES,
+                1 => whole.len(),
+                2 => whole.len().saturating_sub(1),
+                _ => random.below(whole.len() + 1),
+            };
+            let mut buffer = vec![fill; room];
             let received = receive_lines(&session, piece, &mut buffer);
             match received.outcome {
                 Ok(length) => {
-                    assert_eq!(buffer.len(), ROOM_FOR_LINES);
+                    assert_eq!(length, whole.len());
                     lines.extend(&buffer[..length]);
                     assert!(buffer[length..].iter().all(|&byte| byte == fill));
                     rest = behind;
                 }
                 Err(refusal) => {
-                    assert_eq!((refusal, buffer.len()), (14, ROOM_FOR_LINES - 1));
+                    assert_eq!(refusal, 14);
+                    assert!(room < whole.len());
                     assert!(buffer.iter().all(|&byte| byte == fill));
                     assert_eq!(received.session, session);
                     refusals += 1;

@@ -23,7 +23,7 @@ use stim_reference::listed;
 use stim_reference::random::Random;
 use stim_reference::session::{feed, keeps_totals, open_session, Axis, Session, MOST_HELD};
 use stim_reference::setup::{setup_line, Setup};
-use stim_reference::whole_piece::{receive_lines, ROOM_FOR_LINES};
+use stim_reference::whole_piece::{lines_of, ROOM_FOR_LINES};
 use stim_reference::{HIGHEST_READING, LOWEST_READING, PIECE_LIMIT, STREAM_LIMIT};
 
 /// The longest buffer that a line record lends.
@@ -140,17 +140,26 @@ fn add_stream_of_lines(random: &mut Random, setup: &Setup, calls: &mut Vec<Call>
     for _ in 0..random.between(1, 4) {
         let size = whole_piece_size(random);
         let piece = stream(random, setup, size);
-        let after = receive_lines(&session, &piece, &mut vec![0; ROOM_FOR_LINES]).session;
+        let after = lines_of(&session, &piece).map_or(session, |(_, after)| after);
         calls.push(whole_piece(random, session, piece));
         session = after;
     }
 }
 
-/// A whole piece in a buffer that is mostly long enough.
+/// A whole piece in a buffer that is long enough for any lines, about as long
+/// as these, or far shorter.
 fn whole_piece(random: &mut Random, session: Session, piece: Vec<u8>) -> Call {
-    let any = random.below(ROOM_FOR_LINES + 2);
-    let enough = ROOM_FOR_LINES;
-    let room = random.pick(&[enough, enough, enough, enough, enough + 1, enough - 1, any]);
+    let exact = lines_of(&session, &piece).map_or(0, |(lines, _)| lines.len());
+    let room = match random.below(12) {
+        0..=2 => random.between(ROOM_FOR_LINES - 1, ROOM_FOR_LINES + 1),
+        3..=4 => exact,
+        5..=6 => exact.saturating_sub(1),
+        7 => exact + 1,
+        8..=9 => random.below(exact + 1),
+        10 => random.between(exact, 4 * exact + 400),
+        _ => random.below(ROOM_FOR_LINES + 2),
+    };
+    let room = room.min(ROOM_FOR_LINES + 1);
     Call::WholePiece(Box::new(session), piece, room, random.byte())
 }
 

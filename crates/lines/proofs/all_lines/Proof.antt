@@ -22,7 +22,7 @@ same-length c = search needs
 returns : tie.Need-returns
 returns c =
     let a = c .before .before .before .before .before .before .before .args in
-    answered-none (a .session) (a .piece .now) (a .buffer .now) (c .before .before .before .before .if1 .taken) (c .before .before .lines-of .ensures)
+    answered-none (a .session) (a .piece .now) (c .before .before .before .before .if1 .taken) (a .buffer .now) (c .before .before .lines-of .ensures)
 
 lines-behind-requires : tie.Need-lines-behind-requires
 lines-behind-requires c κs = c .before .before .before .before .pre

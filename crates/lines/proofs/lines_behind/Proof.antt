@@ -16,7 +16,7 @@ use Rattle.feeding.specs.Feed.{stateOf}
 use Rattle.feeding.proofs.EachCall.{not-refused}
 use Rattle.lines.specs.declared.Received.the-variants.{Lines}
 use Rattle.lines.specs.declared.LookedUp.{LookedUp}
-use Rattle.lines.specs.Lines.{lineBy, lineOf, foundIn, enough}
+use Rattle.lines.specs.Lines.{lineBy, lineOf, foundIn, roomFor}
 use Rattle.lines.specs.PieceParts.{lookedUp, startOf, nextLine, Ready, scanAt, Answered}
 use Rattle.lines.proofs.HeldFirst.{Handed, handed, datagram, turn, first-line, first-inside, first-short, first-setup, first-ready, first-fed, first-answered, waited-answered}
 use Rattle.lines.proofs.lines_behind.Statement.{statement}
@@ -77,7 +77,7 @@ lines-of-requires c κs =
     let p = s .args .piece .now in
     let few : f .result ≤ longestLine = omega (arith, f .ensures .place, ap length (lined g), short g) in
     let bytes : f .last .1 .1 .1 .0 ≡ sets b 0 (line g) = f .ensures .bytes ∙ ap (sets b 0) (lined g) in
-    let wide : enough ≤ length (f .last .1 .1 .1 .0) = omega (arith, ap length bytes, length-sets b 0 (line g), s .pre .0 .enough) in
+    let wide : roomFor (length p) ≤ length (f .last .1 .1 .1 .0) = omega (arith, ap length bytes, length-sets b 0 (line g), s .pre .0 .enough) in
     let same : turn (s .args .session) p (length b) (s .pre .0) (given g) .session .setup ≡ s .args .session .setup =
     first-setup (s .args .session) p (length b) (s .pre .0) (given g) in (
       subst (λ (r : Reply). Ready (r .session .setup) (startOf (r .session) (r .taken) (f .result)) (length p) (length (f .last .1 .1 .1 .0))) (sym (replied g))

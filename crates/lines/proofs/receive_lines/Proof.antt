@@ -3,10 +3,12 @@ use mathlib.Core.Path.{_≡_, sym, _∙_}
 use native.Mathlib.Omega.{arith}
 use lib.ListN.{length}
 use Rattle.setup.specs.Sensor.{sensorOf}
+use Rattle.setup.specs.declared.Ruling.the-variants.{Accepted}
+use Rattle.admission.specs.Admission.{pieceRuling}
 use Rattle.admission.proofs.Soundness.{sound-facts}
 use Rattle.admission.proofs.PieceRulings.{Admitted, admits, admission-sensor, admission-number}
-use Rattle.lines.specs.PieceParts.{Permitted}
-use Rattle.lines.proofs.Batches.{refused, fourteen, refused-keeps, answered-all}
+use Rattle.lines.proofs.LongestLines.{room-admitted}
+use Rattle.lines.proofs.Batches.{refused, refused-keeps, answered-all}
 use borrow.Author.Needs.{needs}
 use Rattle.lines.proofs.receive_lines.Statement.{statement}
 use Rattle.lines.proofs.receive_lines.Tie as tie
@@ -20,10 +22,9 @@ told c =
     let a = c .before .before .before .before .before .before .args in
     admission-sensor (a .session) (length (a .piece .now)) (sym (c .before .before .before .admit .ensures) ∙ c .before .admission2 .given .1)
 
-permitted : (c : tie.Else1) → let a = c .before .before .before .before .before .before .before .args in Permitted (a .session) (length (a .piece .now)) (length (a .buffer .now))
-permitted c =
-    let a = c .before .before .before .before .before .before .before .args in
-    record { admitted = admits (a .session) (length (a .piece .now)) (told (c .before) .0); enough = omega (arith, c .if1 .left) }
+-- feeding doesn't refuse it
+accepted : (c : tie.After-known-told2) → let a = c .before .before .before .before .before .before .args in pieceRuling (a .session) (length (a .piece .now)) ≡ Accepted
+accepted c = let a = c .before .before .before .before .before .before .args in admits (a .session) (length (a .piece .now)) (told c .0)
 
 admit-requires : tie.Need-admit-requires
 admit-requires c κs = search needs
@@ -37,23 +38,31 @@ refuse-requires c κs = search needs
 enum-known-admission-2 : tie.Need-enum-known-admission-2
 enum-known-admission-2 c = search needs
 
-refuse-requires-2 : tie.Need-refuse-requires-2
-refuse-requires-2 c κs = search needs
-
-returns : tie.Need-returns
-returns c =
-    let a = c .before .before .before .before .before .before .before .before .args in
-    refused-keeps (a .session) (a .piece .now) (a .buffer .now) 14 (c .refuse2 .ensures)
-    (fourteen (a .session) (a .piece .now) (a .buffer .now) (admits (a .session) (length (a .piece .now)) (told (c .before .before) .0)) (c .before .if1 .taken))
-
 looked-up-requires : tie.Need-looked-up-requires
 looked-up-requires c κs =
-    let a = c .before .before .before .before .before .before .before .before .args in
-    let t = told (c .before .before) in
+    let a = c .before .before .before .before .before .before .before .args in
+    let t = told (c .before) in
     (sound-facts (a .session) (t .0 .sound) .accepted, t .1)
 
+room-for-requires : tie.Need-room-for-requires
+room-for-requires c κs =
+    let a = c .before .before .before .before .before .before .before .before .args in
+    room-admitted (a .session) (length (a .piece .now)) (accepted (c .before .before))
+
+lines-apart-requires : tie.Need-lines-apart-requires
+lines-apart-requires c κs = (accepted (c .before .before .before .before .before), c .before .before .before .looked-up .ensures)
+
+same-length : tie.Need-same-length
+same-length c = search needs
+
+returns : tie.Need-returns
+returns c = c .before .before .lines-apart .ensures
+
 all-lines-requires : tie.Need-all-lines-requires
-all-lines-requires c κs = (permitted (c .before .before .before), c .before .looked-up .ensures)
+all-lines-requires c κs = (
+  record { admitted = accepted (c .before .before .before .before .before); enough = omega (arith, c .before .if1 .left, c .before .before .room-for .ensures) },
+  c .before .before .before .looked-up .ensures,
+)
 
 returns-2 : tie.Need-returns-2
 returns-2 c =
@@ -62,13 +71,13 @@ returns-2 c =
     (refused (a .session) (a .piece .now) (a .buffer .now)
     (admission-number (a .session) (length (a .piece .now)) (sym (c .before .before .before .before .admit .ensures) ∙ c .before .before .admission .given .1)))
 
-same-length : tie.Need-same-length
-same-length c = search needs
+same-length-2 : tie.Need-same-length-2
+same-length-2 c = search needs
 
 returns-3 : tie.Need-returns-3
 returns-3 c =
-    let a = c .before .before .before .before .before .before .before .before .before .before .before .before .before .args in
-    answered-all (a .session) (a .piece .now) (a .buffer .now) (permitted (c .before .before .before .before .before .before)) (c .before .before .all-lines .ensures)
+    let a = c .before .before .before .before .before .before .before .before .before .before .before .before .before .before .args in
+    answered-all (a .session) (a .piece .now) (accepted (c .before .before .before .before .before .before .before .before)) (a .buffer .now) (c .before .before .all-lines .ensures)
 
 pub receive-lines-spec : {M : Type 1} → statement M
 receive-lines-spec =
@@ -78,10 +87,12 @@ receive-lines-spec =
     enum-known-admission
     refuse-requires
     enum-known-admission-2
-    refuse-requires-2
-    returns
     looked-up-requires
+    room-for-requires
+    lines-apart-requires
+    same-length
+    returns
     all-lines-requires
     returns-2
-    same-length
+    same-length-2
     returns-3)
