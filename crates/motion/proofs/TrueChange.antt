@@ -24,6 +24,11 @@ difference-of d h t u k =
     let n : natAbs x ≤ 8388607 = floor-near t u d 8388607 h k in
     fold-sub (floor u d) (floor t d) ∙ fold-id x (range-of-abs x (omega arith))
 
+-- neighbours that are one fine unit nearer than the bound are close
+close-met : Close 1000 (pos 0 ∷ pos 8388606999 ∷ pos 0 ∷ [])
+unfolding Close CloseFrom
+close-met = (omega arith, (omega arith, tt))
+
 -- ---- a fit datagram and an unfit one
 
 step-fit : (a : Axis) (s : Sighting) → s .fit ≡ true → axisStep a s ≡ fitStep a (s .reading)
@@ -64,7 +69,9 @@ module _ (d : ℕ) (h : 0 < d) (t₀ : ℤ) where
   next : {a : Axis} {u : ℤ} {us : List ℤ} → Awaits a (u ∷ us) → (fitStep a (readingOf d u) ≡ standing d t₀ u) × CloseFrom d u us
   unfolding Close CloseFrom
   next {a} {u} {us} (idle e f k) = (at-first d a e u ∙ ap (λ (t : ℤ). standing d t u) f, k)
-  next {u} (going t e k) = (ap (λ (x : Axis). fitStep x (readingOf d u)) e ∙ at-next d h t₀ t u (k .0), k .1)
+  next {u} (going t e k) =
+      let near : natAbs (u -ℤ t) < (2 ^ 23 - 1) * d = omega (arith, k .0) in
+      (ap (λ (x : Axis). fitStep x (readingOf d u)) e ∙ at-next d h t₀ t u near, k .1)
 
   AtEach : Axis → List Sighting → List ℤ → Type 0
   AtEach a ds ts = (i : ℕ) → i < length ds → getD ds i none .fit ≡ true → Stands d t₀ (getD ts (fitBefore ds i) (pos 0)) (after a (take (suc i) ds))

@@ -169,9 +169,9 @@ fn put(buffer: [u8; 128], place: usize, bytes: &[u8]) -> [u8; 128]
     written
 }
 
-// The bytes held and then those of a piece, with zeros behind them.
+// The bytes held, 64 at most, and then those of a piece, with zeros behind them.
 fn join(held: &[u8], piece: &[u8]) -> [u8; 128]
-    requires { ⌜ length (now held) + length (now piece) ≤ 128 ⌝ }
+    requires { ⌜ (length (now held) ≤ 64) × (length (now held) + length (now piece) ≤ 128) ⌝ }
     ensures { λ r. ⌜ r ≡ padded 128 (now (held .entry) ++ now (piece .entry)) ⌝ }
 {
     let front = put([0u8; 128], 0, held);

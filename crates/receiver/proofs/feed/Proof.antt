@@ -1,7 +1,8 @@
 -- `receiver::feed` meets its contract: refused by 10, 11 or 12, or the scan of the bytes held and the piece. Assumes nothing.
-use mathlib.Core.Path.{sym, _∙_}
+use mathlib.Core.Path.{_≡_, sym, _∙_}
 use lib.ListN.{length}
 use Rattle.admission.proofs.PieceRulings.{admits, admission-sensor, admission-number}
+use Rattle.feeding.specs.Feed.{refusal}
 use Rattle.feeding.proofs.CallParts.{fed-refused}
 use borrow.Author.Needs.{needs}
 use Rattle.receiver.proofs.feed.Statement.{statement}
@@ -28,7 +29,8 @@ scan-piece-requires c κs =
 returns : tie.Need-returns
 returns c =
     let a = c .before .before .before .before .before .before .args in
-    c .refuse .ensures
+    let refused : c .refuse .result ≡ refusal (a .session) (c .before .before .admission .given .0 .0) = c .refuse .ensures in
+    refused
     ∙ sym (fed-refused (a .session) (a .piece .now)
     (admission-number (a .session) (length (a .piece .now)) (sym (c .before .before .before .before .admit .ensures) ∙ c .before .before .admission .given .1)))
 

@@ -1,8 +1,18 @@
 -- `receiver::hand_out` meets its contract. Assumes nothing.
+use Prim.Native.Nat.{ℕ}
+use mathlib.Core.Path.{_≡_}
+use mathlib.Core.List.{[]}
 use native.Mathlib.Omega.{arith}
+use Rattle.setup.specs.Sensor.{sensorOf}
+use Rattle.scan.specs.Scan.{finds}
+use Rattle.history.specs.History.{awaitsFirst, gapNext, advanced}
+use Rattle.session.specs.declared.Session.{Session}
+use Rattle.feeding.specs.declared.Answer.the-variants.{Datagram as HandedOut}
+use Rattle.feeding.specs.declared.Datagram.{Datagram}
+use Rattle.feeding.specs.declared.Reply.{Reply}
 use Rattle.history.proofs.HistoryLaws.{advanced-next}
-use Rattle.feeding.specs.Feed.{historyAfter, tell}
-use Rattle.feeding.specs.CallParts.{replyAfter}
+use Rattle.feeding.specs.Feed.{datagramWith, historyAfter, tell}
+use Rattle.feeding.specs.CallParts.{contentsWith, replyAfter}
 use Rattle.feeding.proofs.CallParts.{contents-read}
 use borrow.Author.Needs.{needs}
 use Rattle.receiver.proofs.hand_out.Statement.{statement}
@@ -34,6 +44,13 @@ session-behind-requires c κs =
     let s = c .before .before .before .before .before .before .before .before .before .before .before .before .before in
     (s .pre .0, s .pre .1, omega arith)
 
+-- a datagram's answer, of the session and the datagram in it
+handed :
+    {taken : ℕ} {s t : Session} {o p : Datagram} → s ≡ t → o ≡ p
+    → _≡_ {A = Reply} (record { answer = HandedOut; taken = taken; session = s; datagram = o })
+    (record { answer = HandedOut; taken = taken; session = t; datagram = p })
+handed e f = rw (e, f)
+
 returns : tie.Need-returns
 unfolding replyAfter historyAfter tell
 returns c =
@@ -44,18 +61,30 @@ returns c =
     let f = g .before .before in
     let s = c .before .before .before .before .before .before .before .before .before .before .before .before .before .before in
     let a = s .args in
+    let reply = replyAfter (a .session) (a .taken) (finds (a .passed) (a .d .now) []) in
+    let fields = f .fields-of .result in
+    let gap : g .gap-before .result ≡ gapNext (a .sensor .rate) (a .session .history) (fields .counter) = g .gap-before .ensures in
+    let stepped :
+    h .advance .result ≡ advanced (k .kept-groups .result) (a .session .history) (f .before .readings .result) (fields .statuses) (fields .counter) =
+    h .advance .ensures in
+    let made :
+    d .datagram-of .result
+    ≡ datagramWith (a .sensor) (g .gap-before .result) (contentsWith (f .before .readings .result) fields) (h .advance .result .axes) =
+    d .datagram-of .ensures in
+    let moved :
+    h .advance .result ≡ historyAfter (sensorOf (a .session .setup)) (awaitsFirst (a .session .history)) (a .session .history) (a .d .now) =
     rw (
       ← s .pre .2,
-      c .session-behind .ensures,
-      d .datagram-of .ensures,
-      h .advance .ensures,
+      stepped,
       advanced-next _ (a .session .history) _ _ _ (s .pre .0 .datagrams),
       k .kept-groups .ensures,
-      g .gap-before .ensures,
       f .fields-of .ensures,
       f .before .readings .ensures,
-      contents-read (a .sensor .row) (a .d .now),
-    )
+    ) in
+    let behind : c .session-behind .result ≡ reply .session = rw (c .session-behind .ensures, moved) in
+    let told : d .datagram-of .result ≡ reply .datagram =
+    rw (made, moved, gap, f .fields-of .ensures, f .before .readings .ensures, ← s .pre .2, contents-read (a .sensor .row) (a .d .now)) in
+    handed {taken = a .taken} behind told
 
 pub hand-out-spec : {M : Type 1} → statement M
 hand-out-spec =

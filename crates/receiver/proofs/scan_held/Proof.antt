@@ -153,7 +153,9 @@ behind c =
     omega (arith, undecided-arm (c .before) .short, front-length l, l .least .ensures, s .pre .1, s .pre .2, c .if1 .left)
 
 sub-least : tie.Need-sub-least
-sub-least c = search needs
+sub-least c =
+    let s = c .before .before in
+    omega (arith, accepted-length (s .args .session .setup) (s .pre .0) .0, s .pre .1)
 
 least-requires : tie.Need-least-requires
 least-requires c κs = search needs
@@ -172,7 +174,10 @@ slice-aggregate-join-2 c =
 join-requires : tie.Need-join-requires
 join-requires c κs =
     let s = c .before .before in
-    omega (arith, held-count (s .before .before .before), front-most s, length-take-le (s .least .result) (s .before .before .before .args .piece .now) (part-within s))
+    let held = held-count (s .before .before .before) in (
+      omega (arith, held, longest-most (s .before .before .before), s .before .before .before .pre .2),
+      omega (arith, held, front-most s, length-take-le (s .least .result) (s .before .before .before .args .piece .now) (part-within s)),
+    )
 
 add-n : tie.Need-add-n
 add-n c = omega (arith, front-most (c .before .before .before))

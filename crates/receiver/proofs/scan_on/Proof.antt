@@ -1,14 +1,15 @@
 -- `receiver::scan_on` meets its contract: the scan of the rest of the piece stops at the place that find returns. Assumes nothing.
 use Prim.Native.Nat.{ℕ, _+_, _-_, _≤_}
 use mathlib.Core.Path.{_≡_, sym, ap, _∙_}
-use mathlib.Core.List.{List}
+use mathlib.Core.List.{List, []}
 use native.Mathlib.Omega.{arith}
 use lib.ListN.{length, take, drop, length-drop}
 use Rattle.integers.proofs.Buffers.{to-end, part-of}
 use Rattle.setup.proofs.Refusals.{accepted-length}
-use Rattle.scan.specs.Scan.{Verdict, first, later}
+use Rattle.scan.specs.Scan.{Verdict, finds, first, later}
 use Rattle.search.specs.Search.{verdictOf, verdictIn, placeOf}
 use Rattle.search.proofs.Places.{IsComplete, IsUndecided, found-complete, found-undecided}
+use Rattle.feeding.specs.CallParts.{replyAfter}
 use Rattle.feeding.proofs.BySetup.{sensor-verdict}
 use Rattle.feeding.proofs.CallParts.{reply-found, reply-held, room-less}
 use borrow.Author.Needs.{needs}
@@ -120,8 +121,8 @@ hand-out-requires c κs =
     let n = a .passed + length (a .piece .now) in
     let at = place (c .before) in
     let w = complete-within (c .before) in (
-      room-less (a .session) n (a .passed + at) (omega arith) (s .pre .2),
-      room-less (a .session) n (a .from + (at + size (c .before))) (omega arith) (s .pre .2),
+      room-less (a .session) n _ (omega arith) (s .pre .2),
+      room-less (a .session) n _ (omega arith) (s .pre .2),
       s .pre .3,
     )
 
@@ -171,7 +172,9 @@ returns c =
     let q = drop (a .from) p in
     let rest = take (length p - a .from) q in
     let w = complete-arm (c .before .before) in
-    c .hand-out .ensures
+    let handed : c .hand-out .result ≡ replyAfter (a .session) (a .from + (at + n)) (finds (a .passed + at) (take (at + n - at) (drop at rest)) []) =
+    c .hand-out .ensures in
+    handed
     ∙ reply-found (a .session) p (take n (drop at q)) (take (at + n - at) (drop at rest)) (drop (at + n) q) (a .passed + at) (a .from + (at + n))
     (later (a .passed) (first (verdictOf (a .session .setup)) q)) (ap (later (a .passed)) (w .scan))
     (omega (arith, length-drop (at + n) q, length-drop (a .from) p, w .within, s .pre .1))

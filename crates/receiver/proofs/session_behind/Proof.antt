@@ -1,6 +1,7 @@
 -- `receiver::session_behind` meets its contract. Assumes nothing.
-use mathlib.Core.Path.{ap, _∙_}
+use mathlib.Core.Path.{_≡_, ap, _∙_}
 use Prim.Native.Nat.{_+_}
+use lib.ListN.{take}
 use lib.Seq.{take-all}
 use Rattle.session.specs.Session.{sessionWith}
 use borrow.Author.Needs.{needs}
@@ -20,7 +21,11 @@ returns : tie.Need-returns
 returns c =
     let s = c .before .before .before .before .before in
     let a = s .args in
-    c .session-with .ensures
+    let counted :
+    c .session-with .result
+    ≡ sessionWith (a .session .setup) (a .history) (a .session .passed + a .passed) (a .session .fed + a .taken) (take 64 (a .undecided .now)) =
+    c .session-with .ensures in
+    counted
     ∙ ap (sessionWith (a .session .setup) (a .history) (a .session .passed + a .passed) (a .session .fed + a .taken)) (take-all 64 (a .undecided .now) (s .pre .2))
 
 pub session-behind-spec : {M : Type 1} → statement M
