@@ -1,12 +1,12 @@
 -- One call of feed on a session that 10 doesn't turn down, by what it answers: a datagram, or waiting. Assumes nothing.
-use Prim.Native.Nat.{ℕ, _+_, _*_, _^_, _≤_, _<_}
+use Prim.Native.Nat.{ℕ, _+_, _-_, _*_, _^_, _≤_, _<_}
 use mathlib.Core.Path.{_≡_, refl, sym, ap, _∙_, subst}
 use mathlib.Core.Bool.{Bool, true, false, cond}
 use mathlib.Core.List.{List, [], _++_, append-assoc, append-nil}
 use native.Mathlib.Nat.{mul-le-mul-right}
 use native.Mathlib.Omega.{arith}
 use lib.IntN.{natAbs}
-use lib.ListN.{length, take, drop, take-append-drop}
+use lib.ListN.{length, take, drop, getD, take-append-drop}
 use lib.Seq.{length-take-le, drop-drop}
 use Rattle.integers.proofs.Buffers.{padded-front}
 use Rattle.setup.specs.Setup.{rulingOn, lengthOf}
@@ -24,9 +24,9 @@ use Rattle.scan.specs.Calls.{Fed, after, taking}
 use Rattle.scan.specs.Carry.{steps, carrying}
 use Rattle.scan.specs.Stream.{Begins}
 use Rattle.scan.proofs.ScanLaws.{Parted, parted-at}
-use Rattle.scan.proofs.AmongLaws.{stable, none-passed}
+use Rattle.scan.proofs.AmongLaws.{stable, none-passed, passed-decided}
 use Rattle.scan.proofs.RunLaws.{Step, down, waited, handed, step, handed-acceptable}
-use Rattle.search.specs.Search.{isDatagram, rulesOf, verdictOf}
+use Rattle.search.specs.Search.{candidateOf, isDatagram, rulesOf, verdictOf}
 use Rattle.search.proofs.Datagrams.{lawful}
 use Rattle.history.specs.History.{awaitsFirst, historyNext}
 use Rattle.session.specs.declared.Session.{Session}
@@ -76,17 +76,9 @@ module _ (s : Session) (e : isSound s ≡ true) (p : List ℕ) where
   seen : Step (consumer u) (rulesOf u) (lawful u ok) (history-invariant u ok) (stateOf s) p (stateCall u (stateOf s) p)
   seen = step (consumer u) (rulesOf u) (lawful u ok) (history-invariant u ok) (stateOf s) p (state-safe s e)
 
-  -- none begins at the bytes passed over, n of the bytes held and k more
-  bare :
-      (n k : ℕ) → n ≤ length (heldBytes s ++ take k p)
-      → ((m : ℕ) → m < n → m ≤ length (heldBytes s ++ take k p) → Begins (isDatagram u) (drop m ((heldBytes s ++ take k p) ++ drop k p)) → ⊥)
-      → (m : ℕ) → m < length (take n (heldBytes s ++ take k p)) → Begins (isDatagram u) (drop m (heldBytes s ++ p)) → ⊥
-  bare n k l none m h B =
-      let w = heldBytes s ++ take k p in
-      let b = length-take-le n w l in
-      let v : heldBytes s ++ p ≡ w ++ drop k p =
-      ap (λ (q : List ℕ). heldBytes s ++ q) (sym (take-append-drop k p)) ∙ sym (append-assoc (heldBytes s) (take k p) (drop k p)) in
-      none m (omega arith) (omega arith) (subst (λ (x : List ℕ). Begins (isDatagram u) (drop m x)) v B)
+  -- the bytes held and k of the piece, and what stands behind them
+  cut : (k : ℕ) → heldBytes s ++ p ≡ (heldBytes s ++ take k p) ++ drop k p
+  cut k = ap (λ (q : List ℕ). heldBytes s ++ q) (sym (take-append-drop k p)) ∙ sym (append-assoc (heldBytes s) (take k p) (drop k p))
 
   -- ---- a datagram is handed out
 
@@ -129,7 +121,16 @@ module _ (s : Session) (e : isSound s ≡ true) (p : List ℕ) where
             taken = l;
             passed = ap (λ (m : ℕ). s .passed + m) (sym (length-take-le n joint within));
             acceptable = good;
-            none-begins = bare n k within (λ m h b. none-passed (rulesOf u) (lawful u ok) joint (drop k p) x m h b);
+            none-begins =
+                λ m h B.
+                let b = length-take-le n joint within in
+                none-passed (rulesOf u) (lawful u ok) joint (drop k p) x m (omega arith) (omega (arith, within))
+                (subst (λ (y : List ℕ). Begins (isDatagram u) (drop m y)) (cut k) B);
+            decided =
+                λ m h.
+                let b = length-take-le n joint within in
+                subst (λ (y : List ℕ). candidateOf u (getD y m 0) ≤ length y - m) (sym (cut k))
+                (passed-decided (rulesOf u) (lawful u ok) joint (drop k p) x m (omega arith) (omega (arith, within)));
             contained = contained-told u ok (s .history) d;
             exact = λ group axis g h. exact-told u ok (s .history) d group axis g h good (few-totals (sessionOf u next) after-ten least group axis g h);
             counted = unfold historyAfter historyNext in refl;
@@ -181,6 +182,12 @@ module _ (s : Session) (e : isSound s ≡ true) (p : List ℕ) where
         none-passed (rulesOf u) (lawful u ok) all [] x m (omega arith) (omega (arith, inside))
         (subst (λ (y : List ℕ). Begins (isDatagram u) (drop m y)) (sym (append-nil all)) B)
 
+    decided-here : (m : ℕ) → m < length (take n all) → candidateOf u (getD all m 0) ≤ length all - m
+    decided-here m l =
+        let b = length-take-le n all inside in
+        subst (λ (y : List ℕ). candidateOf u (getD y m 0) ≤ length y - m) (append-nil all)
+        (passed-decided (rulesOf u) (lawful u ok) all [] x m (omega arith) (omega (arith, inside)))
+
     waited-reply : CallWaits s p without
     waited-reply =
         record {
@@ -189,6 +196,7 @@ module _ (s : Session) (e : isSound s ≡ true) (p : List ℕ) where
           taken = refl;
           passed = ap (λ (m : ℕ). s .passed + m) (sym (length-take-le n all inside));
           none-begins = none-here;
+          decided = decided-here;
           undecided = subst (Undecided (verdictOf u)) (sym held-then) (split .2);
           history = refl;
           zeros = refl;

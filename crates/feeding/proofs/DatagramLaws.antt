@@ -5,7 +5,7 @@ use mathlib.Core.Path.{_≡_, refl, sym, ap, _∙_, subst}
 use mathlib.Core.Bool.{true}
 use mathlib.Core.List.{List}
 use native.Mathlib.Omega.{arith}
-use lib.Ieee.{Float}
+use lib.Ieee.{Float, nan}
 use lib.Ieee.Exact.{HasValue}
 use lib.IntN.{ℤ, natAbs}
 use lib.ListN.{getD}
@@ -14,14 +14,15 @@ use Rattle.setup.specs.Setup.{rulingOn}
 use Rattle.setup.specs.Sensor.{sensorOf}
 use Rattle.setup.specs.declared.Setup.{Setup}
 use Rattle.setup.specs.declared.Ruling.the-variants.{Accepted}
+use Rattle.setup.proofs.Refusals.{each}
 use Rattle.wire.specs.Fields.{fieldsOf}
 use Rattle.wire.proofs.FieldRanges.{fields-fit}
 use Rattle.gaps.specs.Gaps.{missedAt}
 use Rattle.gaps.proofs.Gaps.{missed-with}
-use Rattle.motion.specs.Totals.{axisAt, totalOf, totalAt}
+use Rattle.motion.specs.Totals.{noAxis, axisAt, totalOf, totalsOf, totalAt}
 use Rattle.motion.specs.declared.Axis.{Axis}
 use Rattle.motion.specs.declared.Total.{Total}
-use Rattle.motion.proofs.NineAxes.{total-at}
+use Rattle.motion.proofs.NineAxes.{each-axis, total-at}
 use Rattle.doubles.specs.Doubles.{negative, plusZero, unitNumberIn, doublesIn, shiftIn, groupValues, valuesFor, totalDouble, doubleAt}
 use Rattle.doubles.specs.declared.Values.{Values}
 use Rattle.doubles.proofs.Doubles.{double-at}
@@ -32,8 +33,8 @@ use Rattle.search.proofs.Datagrams.{datagram-parts}
 use Rattle.history.specs.History.{awaitsFirst}
 use Rattle.history.specs.declared.History.{History}
 use Rattle.feeding.specs.declared.Datagram.{Datagram}
-use Rattle.feeding.specs.Feed.{datagramWith, tell, consumer}
-use Rattle.feeding.specs.Promises.{sighting, shiftOf, TotalExact, Contained, Exact}
+use Rattle.feeding.specs.Feed.{datagramWith, tell, consumer, noDatagram}
+use Rattle.feeding.specs.Promises.{sighting, shiftOf, TotalExact, Contained, Exact, Zeros}
 use Rattle.feeding.proofs.BySetup.{told-datagram}
 
 module _ (u : Setup) (ok : rulingOn u ≡ Accepted) (h : History) (d : List ℕ) where
@@ -89,3 +90,25 @@ module _ (u : Setup) (ok : rulingOn u ≡ Accepted) (h : History) (d : List ℕ)
               (accepted-value u ok (fieldsOf (u .identifier) d .readings) group g axis k (reading-small a));
           double = double-exact small;
         }
+
+-- ---- where none is handed out
+
+pub no-datagram-zeros : Zeros noDatagram
+unfolding noDatagram totalsOf
+no-datagram-zeros =
+    record {
+      readings = refl;
+      statuses = refl;
+      temperatures = refl;
+      temperature-statuses = refl;
+      aux = (refl, refl);
+      counter = (refl, refl);
+      flags = refl;
+      gap = refl;
+      unit = each (λ group. unitNumberIn (valuesFor (noDatagram .values) group) ≡ 0) refl refl refl;
+      value =
+          each-axis (λ group axis. getD (doublesIn (valuesFor (noDatagram .values) group)) axis nan ≡ plusZero) (refl, refl, refl) (refl, refl, refl)
+          (refl, refl, refl);
+      total = each-axis (λ group axis. totalAt (noDatagram .totals) group axis ≡ totalOf noAxis) (refl, refl, refl) (refl, refl, refl) (refl, refl, refl);
+      double = each-axis (λ group axis. doubleAt (noDatagram .doubles) group axis ≡ plusZero) (refl, refl, refl) (refl, refl, refl) (refl, refl, refl);
+    }

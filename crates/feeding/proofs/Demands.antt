@@ -52,7 +52,7 @@ use Rattle.feeding.proofs.HistoryInvariant.{history-invariant}
 use Rattle.feeding.proofs.Agreement.{Like, StateRun, run-of-states, run-of-sessions}
 use Rattle.feeding.proofs.EachCall.{not-refused, told-handed, told-refused, call-kept}
 use Rattle.feeding.proofs.CallCases.{call-hands, call-waits}
-use Rattle.feeding.proofs.DatagramLaws.{total-told, exact-told}
+use Rattle.feeding.proofs.DatagramLaws.{total-told, exact-told, no-datagram-zeros}
 use Rattle.feeding.proofs.OneLength.{undecided-held, handed-last, empty-call}
 use Rattle.feeding.proofs.CallParts.{fed-unsound, fed-over, fed-past}
 use Rattle.feeding.proofs.ContainedAt.{carried-datagrams, contained-at}
@@ -330,6 +330,7 @@ every-call =
       kept = λ s t p. call-kept s (ten-sound s t) p;
       hands = λ s t p q. call-hands s (ten-sound s t) p q;
       waits = λ s t p q. call-waits s (ten-sound s t) p q;
+      zeros = no-datagram-zeros;
       one-length = one-length;
       ten = λ s p f. fed-unsound s p (fails-ten s f);
       eleven = λ s p t h. fed-over s p (ten-sound s t) h;

@@ -4,29 +4,33 @@ use Prim.Native.Nat.{ℕ, _+_, _-_, _*_, _≤_}
 use mathlib.Core.Path.{_≡_, refl, sym, ap, _∙_, subst}
 use mathlib.Core.Bool.{true}
 use mathlib.Core.List.{List}
+use mathlib.Core.Option.{none}
 use native.Mathlib.Nat.{add-zero}
 use native.Mathlib.Omega.{arith}
 use lib.ListN.{length, replicate, length-append, length-replicate}
-use Rattle.setup.specs.Setup.{rulingOn, lengthOf}
+use Rattle.setup.specs.Setup.{rulingNumber, rulingOn, lengthOf}
 use Rattle.setup.specs.declared.Setup.{Setup}
+use Rattle.setup.specs.declared.Ruling as ruling
+use Rattle.setup.specs.declared.Ruling.{Ruling}
 use Rattle.setup.specs.declared.Ruling.the-variants.{Accepted}
 use Rattle.setup.proofs.Refusals.{accepted-length}
 use Rattle.scan.specs.Calls as calls
-use Rattle.scan.specs.Calls.{Fed}
+use Rattle.scan.specs.Calls.{State, Fed}
 use Rattle.scan.specs.Carry.{carrying, feedSession}
 use Rattle.scan.proofs.CallsLaws.{feed-made, no-refusal}
 use Rattle.scan.proofs.CarryLaws.{feed-fed, reply-refused}
 use Rattle.search.specs.Search.{limitsOf, rulesOf, verdictOf}
 use Rattle.search.proofs.Datagrams.{lawful}
-use Rattle.admission.specs.Admission.{isSound}
+use Rattle.admission.specs.Admission.{isSound, pieceNumber, pieceRuling}
 use Rattle.session.specs.declared.Session.{Session}
 use Rattle.feeding.specs.declared.Datagram.{Datagram}
 use Rattle.feeding.specs.declared.Answer.{Answer}
 use Rattle.feeding.specs.declared.Answer.the-variants.{Datagram as HandedOut, Waiting, Refused}
 use Rattle.feeding.specs.declared.Reply.{Reply}
-use Rattle.feeding.specs.Feed.{consumer, SessionState, stateOf, sessionOf, replyBy, feedOf, answerOf}
+use Rattle.feeding.specs.Feed.{consumer, SessionState, stateOf, sessionOf, replyBy, replyOf, feedBy, feedOf, answerOf, answerNumber}
 use Rattle.feeding.specs.Promises.{CallKept}
 use Rattle.admission.proofs.Soundness.{sound-facts}
+use Rattle.admission.proofs.PieceRulings.{number-told}
 use Rattle.admission.proofs.TenLaws.{sound-ten}
 use Rattle.feeding.proofs.Refinement.{SafeOf, state-safe, session-sound}
 use Rattle.feeding.proofs.CallParts.{fed-by}
@@ -62,6 +66,23 @@ module _ (o : Datagram) where
   told-refused HandedOut e = absurd (let z : _≡_ {A = ℕ} 0 1 = cc in omega arith)
   told-refused Waiting e = absurd (let z : _≡_ {A = ℕ} 0 1 = cc in omega arith)
   told-refused (Refused m) {n} e = let z : m ≡ n = cc in ap Refused z
+
+-- the number of a call is that of its piece
+pub fed-number : (s : Session) (p : List ℕ) → answerNumber (feedOf s p .answer) ≡ pieceNumber s (length p)
+unfolding feedOf
+fed-number s p = by (pieceRuling s (length p)) ∙ number-told s (length p)
+  where
+    made-none : (a : calls.Answer (List ℕ)) (k : ℕ) (t : State) → ((n : ℕ) → a ≡ calls.Answer.refused n → ⊥)
+        → answerNumber (replyOf s (carrying (consumer (s .setup)) (stateOf s) (record { answer = a; taken = k; next = t })) .answer) ≡ none
+    made-none (calls.Answer.datagram d) k t h = refl
+    made-none calls.Answer.waiting k t h = refl
+    made-none (calls.Answer.refused n) k t h = absurd (h n refl)
+
+    by : (r : Ruling) → answerNumber (feedBy r s p .answer) ≡ rulingNumber r
+    by ruling.the-variants.Accepted =
+        let c = calls.call (verdictOf (s .setup)) (stateOf s .scan) p in
+        made-none (c .answer) (c .taken) (c .next) (λ n e. no-refusal (rulesOf (s .setup)) (stateOf s .scan) p e)
+    by (ruling.the-variants.Refused n) = refl
 
 -- ---- a call on a session that 10 doesn't turn down
 

@@ -152,7 +152,7 @@ module _ {os : List Datagram} {rs : List Report} {t : Session} (c : FedInTurn ex
   total-at :
       (i : ℕ) → i < 5 → totalAt (getD os i noDatagram .totals) 2 2 ≡ totalOf (after noAxis (take (suc i) (sightings example 2 2 datagrams)))
   total-at i h =
-      demand2 example accepted-example .exact c datagrams among-example i h 2 2 (omega arith) (omega arith) .total
+      demand2 example accepted-example .totals c datagrams among-example i h 2 2 (omega arith) (omega arith)
       ∙ ap (λ (b : Bool). totalOf (cond b (after noAxis (take (suc i) (sightings example 2 2 datagrams))) noAxis)) keeps-example
 
   -- it is -40 at the second, and so it stays at the two unfit ones

@@ -1,4 +1,4 @@
--- One call of feed by its parts: what the code hands from function to function.
+-- A helper of proofs, no rule of 01: one call of feed by its parts, what the code hands from function to function.
 use Prim.Native.Nat.{ℕ, _+_, _-_, _<_}
 use mathlib.Core.List.{List, [], _∷_}
 use lib.IntN.{ℤ}

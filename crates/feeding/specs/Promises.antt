@@ -7,13 +7,14 @@ use mathlib.Core.Option.{none, some}
 use mathlib.Core.Path.{_≡_}
 use lib.Dec.{eqb}
 use lib.IntN.{ℤ, pos, natAbs, _-ℤ_, _*ℤ_}
+use lib.Ieee.{nan}
 use lib.Ieee.Exact.{HasValue}
-use lib.ListN.{length, take, drop, getD}
+use lib.ListN.{length, take, drop, getD, replicate}
 use Rattle.integers.specs.Rounding.{floor}
 use Rattle.setup.specs.Setup.{rulingNumber, setupNumber, lengthOf}
 use Rattle.setup.specs.declared.Setup.{Setup}
 use Rattle.wire.specs.Fields.{fieldsOf, besidesReadings}
-use Rattle.gaps.specs.Gaps.{missedIn, missedAt}
+use Rattle.gaps.specs.Gaps.{datagrams, missedIn, missedAt}
 use Rattle.motion.specs.Status.{flagged}
 use Rattle.motion.specs.Totals.{noAxis, Sighting, axisStep, keeps, seen, axisAt, totalAt, fitReadings, fitBefore, readingOf, Close, totalOf, after}
 use Rattle.doubles.specs.Doubles.{negative, plusZero, unitNumberIn, doublesIn, valuesFor, doubleAt}
@@ -21,7 +22,7 @@ use Rattle.scan.specs.Scan.{scan, Undecided}
 use Rattle.scan.specs.Calls.{datagram, waiting, refused, Report}
 use Rattle.scan.specs.Stream.{stream, reports, NoTen, Begins, Among}
 use Rattle.scan.specs.Carry.{told}
-use Rattle.search.specs.Search.{isDatagram, limitsOf, verdictOf}
+use Rattle.search.specs.Search.{candidateOf, isDatagram, limitsOf, verdictOf}
 use Rattle.history.specs.History.{noHistory, awaitsFirst}
 use Rattle.session.specs.Session.{opening}
 use Rattle.admission.specs.Admission.{heldBytes}
@@ -90,6 +91,23 @@ pub record Exact (u : Setup) (d : List ℕ) (o : Datagram) (group axis : ℕ) : 
       (natAbs (sighting u group axis d .reading)) (2 ^ shiftOf u group)
   pub double : TotalExact u group axis o
 
+-- where no datagram is handed out: zeros and unit 0 in its place
+pub record Zeros (o : Datagram) : Type 0 where
+  pub readings : o .gyro ∷ o .accelerometer ∷ o .inclinometer ∷ [] ≡ replicate 3 (replicate 3 (pos 0))
+  pub statuses : o .fields .statuses ≡ replicate 3 0
+  pub temperatures :
+      o .fields .«gyro_temperatures» ∷ o .fields .«accelerometer_temperatures» ∷ o .fields .«inclinometer_temperatures» ∷ []
+      ≡ replicate 3 (replicate 3 (pos 0))
+  pub temperature-statuses : o .fields .«temperature_statuses» ≡ replicate 3 0
+  pub aux : (o .fields .aux ≡ pos 0) × (o .fields .«aux_status» ≡ 0)
+  pub counter : (o .fields .counter ≡ 0) × (o .fields .latency ≡ 0)
+  pub flags : o .flagged ≡ replicate 3 0
+  pub gap : missedIn (o .gap) ≡ some (datagrams 0)
+  pub unit : (group : ℕ) → group < 3 → unitNumberIn (valuesFor (o .values) group) ≡ 0
+  pub value : (group axis : ℕ) → group < 3 → axis < 3 → getD (doublesIn (valuesFor (o .values) group)) axis nan ≡ plusZero
+  pub total : (group axis : ℕ) → group < 3 → axis < 3 → totalAt (o .totals) group axis ≡ totalOf noAxis
+  pub double : (group axis : ℕ) → group < 3 → axis < 3 → doubleAt (o .doubles) group axis ≡ plusZero
+
 -- ---- every call
 
 -- a call on a session that 10 doesn't turn down, of which r comes back
@@ -110,9 +128,11 @@ pub record CallHands (s : Session) (p : List ℕ) (r : Reply) : Type 0 where
   pub bytes : heldBytes s ++ take (r .taken) p ≡ over ++ (found ++ heldBytes (r .session))
   pub taken : r .taken ≤ length p
   pub passed : r .session .passed ≡ s .passed + length over
-  -- it is acceptable, and at none of the bytes passed over does an acceptable one begin in the bytes held and the piece
+  -- it is acceptable; at none of the bytes passed over does an acceptable one begin in the bytes held and the piece, and each of them was decided:
+  -- it begins none, or as many bytes are there as the datagram has that it begins
   pub acceptable : isDatagram (s .setup) found ≡ true
   pub none-begins : (k : ℕ) → k < length over → Begins (isDatagram (s .setup)) (drop k (heldBytes s ++ p)) → ⊥
+  pub decided : (k : ℕ) → k < length over → candidateOf (s .setup) (getD (heldBytes s ++ p) k 0) ≤ length (heldBytes s ++ p) - k
   -- its own fields, what was missed since the datagram before it, and exact doubles
   pub contained : Contained (s .setup) (awaitsFirst (s .history)) (s .history .previous) found (r .datagram)
   pub exact : (group axis : ℕ) → group < 3 → axis < 3 → Exact (s .setup) found (r .datagram) group axis
@@ -134,8 +154,9 @@ pub record CallWaits (s : Session) (p : List ℕ) (r : Reply) : Type 0 where
   pub bytes : heldBytes s ++ p ≡ over ++ heldBytes (r .session)
   pub taken : r .taken ≡ length p
   pub passed : r .session .passed ≡ s .passed + length over
-  -- at none of those passed over does an acceptable datagram begin, and nothing is decided yet of those held
+  -- at none of those passed over does an acceptable datagram begin, each of them was decided, and nothing is yet of those held
   pub none-begins : (k : ℕ) → k < length over → Begins (isDatagram (s .setup)) (drop k (heldBytes s ++ p)) → ⊥
+  pub decided : (k : ℕ) → k < length over → candidateOf (s .setup) (getD (heldBytes s ++ p) k 0) ≤ length (heldBytes s ++ p) - k
   pub undecided : Undecided (verdictOf (s .setup)) (heldBytes (r .session))
   -- what the session keeps of the datagrams is as it was, and zeros stand in the datagram's place
   pub history : r .session .history ≡ s .history
@@ -149,6 +170,8 @@ pub record EveryCall : Type 0 where
   pub hands :
       (s : Session) → PassesTen s → (p : List ℕ) → call s p .answer ≡ datagram (feedOf s p .datagram) → CallHands s p (feedOf s p)
   pub waits : (s : Session) → PassesTen s → (p : List ℕ) → call s p .answer ≡ waiting → CallWaits s p (feedOf s p)
+  -- in whose answer, and in a refusal's, that place holds zeros and unit 0
+  pub zeros : Zeros noDatagram
   -- what holds only while all datagrams have one length
   pub one-length : OneLength
   -- a call is refused by 10, else by 11, else by 12, and by nothing else; a refusal takes no bytes and returns the session as given

@@ -1,4 +1,4 @@
--- What the functions that write the lines of a piece hand on from one to the next.
+-- A helper of proofs, no rule of 01: what the functions that write the lines of a piece hand on from one to the next.
 use Prim.Native.Nat.{ℕ, suc, _+_, _-_, _*_, _≤_, _<_}
 use mathlib.Core.Bool.{true}
 use mathlib.Core.List.{List}

@@ -1,17 +1,17 @@
 -- For every stream there is one and only one list of datagrams among bytes at which none begins: those of the scan,
 -- if none begins among the bytes that it holds at the end.
 -- Assumes nothing.
-use Prim.Native.Nat.{ℕ, zero, suc, _≤_, _<_}
+use Prim.Native.Nat.{ℕ, zero, suc, _-_, _≤_, _<_}
 use mathlib.Core.Path.{_≡_, refl, sym, ap, _∙_, subst}
 use mathlib.Core.Bool.{true}
 use mathlib.Core.List.{List, [], _∷_, _++_, append-nil}
 use native.Mathlib.Omega.{arith}
-use lib.ListN.{length, take, drop, length-append, take-append-drop}
-use lib.Seq.{length-take-le, take-at, drop-append-le}
+use lib.ListN.{length, take, drop, getD, length-append, length-drop, take-append-drop, List·getD-append}
+use lib.Seq.{length-take-le, take-at, drop-append-le, drop-cons}
 use Rattle.scan.specs.Scan.{Verdict, waits, passes, hands, Scanned, decided, scanFrom, scan, First, first, Stable}
 use Rattle.scan.specs.Rules.{Rules, verdict, Lawful}
 use Rattle.scan.specs.Stream.{Begins, Among, end, other, then, Bare}
-use Rattle.scan.proofs.FrontLaws.{acceptable-hands, hands-acceptable, passes-on, front-stable}
+use Rattle.scan.proofs.FrontLaws.{acceptable-hands, hands-acceptable, passes-on, passes-enough, front-stable}
 use Rattle.scan.proofs.ScanLaws.{scan-hands, passedIn, first-passes}
 
 module _ (R : Rules) (M : Lawful R) where
@@ -45,6 +45,17 @@ module _ (R : Rules) (M : Lawful R) where
   none-passed u v e k h l B =
       let m : k < passedIn (verdict R) (first (verdict R) u) = subst (λ (f : First). k < passedIn (verdict R) f) (sym e) h in
       passes-none (drop k u) v (first-passes (verdict R) u k m) (subst (Begins (R .acceptable)) (drop-append-le k u v l) B)
+
+  -- each of them was decided: it begins none, or as many bytes are there as the datagram has that it begins
+  pub passed-decided :
+      (u v : List ℕ) {f : First} → first (verdict R) u ≡ f → (k : ℕ) → k < passedIn (verdict R) f → k < length u
+      → R .candidate (getD (u ++ v) k 0) ≤ length (u ++ v) - k
+  passed-decided u v e k h l =
+      let m : k < passedIn (verdict R) (first (verdict R) u) = subst (λ (f : First). k < passedIn (verdict R) f) (sym e) h in
+      let w : verdict R (getD u k 0 ∷ drop (suc k) u) ≡ passes = ap (verdict R) (sym (drop-cons u k 0 l)) ∙ first-passes (verdict R) u k m in
+      let n = passes-enough (R .candidate) (R .acceptable) (getD u k 0) (drop (suc k) u) w in
+      let t : R .candidate (getD (u ++ v) k 0) ≡ R .candidate (getD u k 0) = ap (R .candidate) (List·getD-append u v 0 k l) in
+      omega (arith, length-drop (suc k) u, length-append u v)
 
   bare-among : (u : List ℕ) → Bare (R .acceptable) u → Among (R .acceptable) u []
   bare-among [] h = end

@@ -75,6 +75,14 @@ module _ (candidate : ℕ → ℕ) (acceptable : List ℕ → Bool) where
         go : FrontSeen waits → length (b ∷ u) < candidate b
         go (short h q) = leb-false _ _ q
 
+    -- a byte is passed over that begins none, or once as many bytes are there as the datagram has that it begins
+    pub passes-enough : front candidate acceptable (b ∷ u) ≡ passes → candidate b ≤ length (b ∷ u)
+    passes-enough e = go (front-seen e)
+      where
+        go : FrontSeen passes → candidate b ≤ length (b ∷ u)
+        go (unknown z) = omega arith
+        go (failed h q r) = leb-true _ _ q
+
   -- what is handed out is there and acceptable
   pub hands-acceptable :
       (u : List ℕ) (n : ℕ) → front candidate acceptable u ≡ hands n → (1 ≤ n) × (n ≤ length u) × (acceptable (take n u) ≡ true)

@@ -20,6 +20,10 @@ pub refused-by : (j : Ruling) (u : Setup) → isAccepted j ≡ false → openedB
 refused-by Accepted u e = let z : _≡_ {A = ℕ} 0 1 = cc in absurd (omega arith)
 refused-by (Refused n) u e = refl
 
+pub opening-ruling : (u : Setup) → opening u .answer ≡ rulingOn u
+unfolding opening
+opening-ruling u = refl
+
 -- ---- an accepted setup gives a fresh session of it
 
 pub opened : (u : Setup) → rulingOn u ≡ Accepted → opening u ≡ record { answer = Accepted; session = freshOf u }

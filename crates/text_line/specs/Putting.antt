@@ -1,4 +1,4 @@
--- What the functions that write parts of a line ensure: the parts, and text put at a place of a buffer.
+-- A helper of proofs, no rule of 01: what the functions that write parts of a line ensure, the parts, and text put at a place of a buffer.
 use Prim.Native.Nat.{ℕ, _+_}
 use mathlib.Core.Path.{_≡_}
 use mathlib.Core.List.{List, [], _∷_, _++_}
