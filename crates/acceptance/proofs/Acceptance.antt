@@ -62,7 +62,8 @@ module _ (u : Setup) (s : List ℕ) where
   pub row-acceptable : {r : Row} → rowAt (u .identifier) ≡ Listed r → u .termination ≤ 1
       → acceptable u s ≡ acceptableIn (u .identifier) (layoutOf r (terminated u)) s
   unfolding acceptable
-  row-acceptable e h = rw (e, le-leb (u .termination) 1 h)
+  row-acceptable {r} e h =
+      rw e (ap (λ (b : Bool). b && acceptableIn (u .identifier) (layoutOf r (terminated u)) s) (le-leb (u .termination) 1 h))
 
   pub accepted : acceptable u s ≡ true → Facts u s
   unfolding acceptable

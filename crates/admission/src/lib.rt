@@ -100,7 +100,7 @@ fn counts_right(
 
 // Whether an axis is one that so many datagrams can leave.
 fn axis_right(kept: bool, datagrams: Datagrams, axis: Axis) -> bool
-    requires { ⌜ datagrams .0 * 2 ^ 23 < 2 ^ 64 ⌝ }
+    requires { ⌜ datagrams .0 * 2 ^ 24 < 2 ^ 64 ⌝ }
     ensures { λ r. ⌜ r ≡ axisRight kept (datagrams .0) axis ⌝ }
 {
     let begun = axis.begun;
@@ -115,7 +115,7 @@ fn axis_right(kept: bool, datagrams: Datagrams, axis: Axis) -> bool
 
 // The same of the three axes of a group.
 fn group_right(kept: bool, datagrams: Datagrams, group: GroupAxes) -> bool
-    requires { ⌜ datagrams .0 * 2 ^ 23 < 2 ^ 64 ⌝ }
+    requires { ⌜ datagrams .0 * 2 ^ 24 < 2 ^ 64 ⌝ }
     ensures { λ r. ⌜ r ≡ groupRight kept (datagrams .0) group ⌝ }
 {
     let x = axis_right(kept, datagrams, group.x);
@@ -126,7 +126,7 @@ fn group_right(kept: bool, datagrams: Datagrams, group: GroupAxes) -> bool
 
 // And of the nine.
 fn axes_right(kept: [bool; 3], datagrams: Datagrams, axes: Axes) -> bool
-    requires { ⌜ datagrams .0 * 2 ^ 23 < 2 ^ 64 ⌝ }
+    requires { ⌜ datagrams .0 * 2 ^ 24 < 2 ^ 64 ⌝ }
     ensures { λ r. ⌜ r ≡ axesRightBy kept (datagrams .0) axes ⌝ }
 {
     let gyro = group_right(kept[0], datagrams, axes.gyro);

@@ -1,5 +1,5 @@
 -- `session::fresh` meets its contract. Assumes nothing.
-use mathlib.Core.Path.{ap, _∙_}
+use mathlib.Core.Path.{_≡_, ap, _∙_}
 use mathlib.Core.List.{[]}
 use Rattle.session.specs.Session.{sessionWith, freshOf}
 use Rattle.history.specs.declared.History.{History}
@@ -22,8 +22,9 @@ session-with-requires c κs = search needs
 returns : tie.Need-returns
 unfolding freshOf
 returns c =
-    c .session-with .ensures
-    ∙ ap (λ (h : History). sessionWith (c .before .before .before .args .setup) h 0 0 []) (c .before .before .no-history .ensures)
+    let setup = c .before .before .before .args .setup in
+    let nothing : c .session-with .result ≡ sessionWith setup (c .before .before .no-history .result) 0 0 [] = c .session-with .ensures in
+    nothing ∙ ap (λ (h : History). sessionWith setup h 0 0 []) (c .before .before .no-history .ensures)
 
 pub fresh-spec : {M : Type 1} → statement M
 fresh-spec = tie.close (tie.spec no-history-requires array-share-prefix-none slice-aggregate-session-with session-with-requires returns)

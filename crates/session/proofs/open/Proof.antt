@@ -1,6 +1,5 @@
 -- `session::open` meets its contract. Assumes nothing.
 use mathlib.Core.Path.{_≡_, sym, ap, _∙_}
-use Rattle.setup.specs.Setup.{zeroSetup}
 use Rattle.session.specs.Session.{freshOf, isAccepted, opening}
 use Rattle.session.proofs.Opening.{accepted-by, refused-by}
 use borrow.Author.Needs.{needs}
@@ -36,8 +35,8 @@ returns-2 c =
     let setup = c .before .before .before .before .before .args .setup in
     let answered = c .before .before .before .before .judge .ensures in
     let refused = ap isAccepted (sym answered) ∙ sym (c .before .before .before .is-accepted .ensures) ∙ c .before .before .if1 .left in
-    let zeros : c .fresh2 .result ≡ freshOf zeroSetup = c .fresh2 .ensures ∙ ap freshOf (c .before .zero-setup .ensures) in
-    rw (zeros, answered, refused-by _ setup refused)
+    let zeros : c .fresh2 .result ≡ freshOf (c .before .zero-setup .result) = c .fresh2 .ensures in
+    rw (zeros ∙ ap freshOf (c .before .zero-setup .ensures), answered, refused-by _ setup refused)
 
 pub open-spec : {M : Type 1} → statement M
 open-spec =
