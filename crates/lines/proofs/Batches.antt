@@ -3,7 +3,7 @@ use Prim.Native.Nat.{ℕ, _+_, _-_, _≤_, _<_}
 use mathlib.Core.Path.{_≡_, refl, sym, ap, _∙_, subst}
 use mathlib.Core.List.{List, _++_}
 use mathlib.Core.Logic.{_⊎_, inl, inr}
-use mathlib.Core.Option.{none, some}
+use mathlib.Core.Option.{some}
 use native.Mathlib.Nat.{zero-add, sub-zero}
 use native.Mathlib.Decide.{decLe}
 use native.Mathlib.Omega.{arith}
@@ -71,7 +71,7 @@ module _ (s : Session) (p b : List ℕ) where
   -- what comes of a piece: feeding refuses it, its lines don't fit, or they do
   pub data Way : Batch → Type 0 where
     turned-down : {n : ℕ} → pieceRuling s (length p) ≡ Refused n → Way (refusing s n)
-    too-long : length b < length (linesIn s p) → Way (refusing s 14)
+    too-long : pieceRuling s (length p) ≡ Accepted → length b < length (linesIn s p) → Way (refusing s 14)
     fitting : pieceRuling s (length p) ≡ Accepted → length (linesIn s p) ≤ length b → Way (whole s p)
 
   pub way : Way (batchOf s p (length b))
@@ -79,7 +79,7 @@ module _ (s : Session) (p b : List ℕ) where
     where
       room : pieceRuling s (length p) ≡ Accepted → Dec (length (linesIn s p) ≤ length b) → Way (batchOf s p (length b))
       room e (yes l) = subst Way (sym (fitting-lines s p b e l)) (fitting e l)
-      room e (no l) = let m : length b < length (linesIn s p) = omega arith in subst Way (sym (fourteen s p b e m)) (too-long m)
+      room e (no l) = let m : length b < length (linesIn s p) = omega arith in subst Way (sym (fourteen s p b e m)) (too-long e m)
 
       by : (r : Ruling) → pieceRuling s (length p) ≡ r → Way (batchOf s p (length b))
       by Accepted e = room e (decLe (length (linesIn s p)) (length b))
@@ -94,7 +94,7 @@ module _ (s : Session) (p b : List ℕ) where
           let z : m ≡ n = cc in
           let r = piece-numbers s (length p) e in
           inl (omega (arith, r .0), omega (arith, r .1))
-      by (too-long l) q = inr (let z : 14 ≡ n = cc in sym z)
+      by (too-long e l) q = inr (let z : 14 ≡ n = cc in sym z)
       by (fitting e l) q = absurd (let z : _≡_ {A = ℕ} 0 1 = cc in omega arith)
 
   -- the bytes of the lines lie in the buffer
@@ -103,7 +103,7 @@ module _ (s : Session) (p b : List ℕ) where
     where
       by : {x : Batch} → Way x → receivedBytes (x .answer) ≤ length b
       by (turned-down e) = omega arith
-      by (too-long l) = omega arith
+      by (too-long e l) = omega arith
       by (fitting e l) = l
 
 -- ---- what was written

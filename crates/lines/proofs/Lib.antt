@@ -6,3 +6,4 @@ pub mod HeldFirst
 pub mod Batches
 pub mod OneByOne
 pub mod WholePieces
+pub mod LinesInTurn

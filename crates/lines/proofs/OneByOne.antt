@@ -9,10 +9,10 @@ use Rattle.setup.specs.Setup.{rulingOn}
 use Rattle.setup.specs.declared.Setup.{Setup}
 use Rattle.setup.specs.declared.Ruling.the-variants.{Accepted}
 use Rattle.scan.specs.Scan.{scan}
-use Rattle.scan.specs.Calls.{Report}
-use Rattle.scan.specs.Stream.{stream}
+use Rattle.scan.specs.Calls.{takenWhole, Report}
+use Rattle.scan.specs.Stream.{outcome, reports, stream}
 use Rattle.scan.proofs.RunLaws.{Gives, Result, ready, run-result, run-exists}
-use Rattle.scan.proofs.StreamLaws.{outcome-taken, stream-whole}
+use Rattle.scan.proofs.StreamLaws.{outcome-taken, stream-whole, reports-whole}
 use Rattle.search.specs.Search.{limitsOf, rulesOf, verdictOf}
 use Rattle.search.proofs.Datagrams.{lawful, prompt}
 use Rattle.admission.specs.Admission.{heldBytes, isSound}
@@ -35,9 +35,16 @@ module _ (s : Session) (p : List ℕ) (e : isSound s ≡ true) (few : length p �
   ok = sound-facts s e .accepted
 
   -- the whole piece counts
+  taken-whole : outcome (limitsOf setup) (s .fed) (length p) ≡ takenWhole
+  taken-whole = outcome-taken (limitsOf setup) (s .fed) (length p) few most
+
   streamed : stream (limitsOf setup) (s .fed) (p ∷ []) ≡ p
   unfolding stream
-  streamed = stream-whole (limitsOf setup) (s .fed) p [] (outcome-taken (limitsOf setup) (s .fed) (length p) few most) ∙ append-nil p
+  streamed = stream-whole (limitsOf setup) (s .fed) p [] taken-whole ∙ append-nil p
+
+  reported-whole : reports (limitsOf setup) (s .fed) (p ∷ []) ≡ record { outcome = takenWhole; taken = length p } ∷ []
+  unfolding reports
+  reported-whole = reports-whole (limitsOf setup) (s .fed) p [] taken-whole
 
   -- what a run of calls on it gives
   module _ {os : List Datagram} {rs : List Report} {t : SessionState} (c : StateRun setup ok (stateOf s) (p ∷ []) os rs t) where
@@ -73,10 +80,10 @@ module _ (s : Session) (p : List ℕ) (e : isSound s ≡ true) (few : length p �
         let c = run-of-states setup ok (r .3) (state-safe s e) in
         (r .0, r .1, c .0, subst (λ (x : Session). Calls x (p ∷ []) (r .0) (r .1) (c .0)) (session-state s e long) (c .2))
 
-    -- and hand out these datagrams, and leave this session
+    -- and hand out these datagrams, leave this session, and take the piece whole
     pub one-by-one :
         {os : List Datagram} {rs : List Report} {t : Session} → Calls s (p ∷ []) os rs t
-        → (os ≡ answersIn s p) × (t ≡ sessionOf setup (behind s p))
+        → (os ≡ answersIn s p) × (t ≡ sessionOf setup (behind s p)) × (rs ≡ record { outcome = takenWhole; taken = length p } ∷ [])
     one-by-one {os} {rs} {t} c =
         let r = run-of-sessions setup ok {t = stateOf s} (subst (λ (x : Session). Calls x (p ∷ []) os rs t) (sym (session-state s e long)) c) (state-safe s e) in
-        (given (r .2) .handed-out, r .1 .same ∙ ap (sessionOf setup) (ends-behind (r .2)))
+        (given (r .2) .handed-out, r .1 .same ∙ ap (sessionOf setup) (ends-behind (r .2)), result (r .2) .reported ∙ reported-whole)

@@ -1,3 +1,4 @@
 -- A whole piece at once.
 pub mod Lines
 pub mod PieceParts
+pub mod InTurn

@@ -13,7 +13,7 @@ use Rattle.integers.proofs.Booleans.{and-true}
 use Rattle.scan.specs.Scan.{Scanned, scan, holding, passing, handing, First, ends, finds, first, Undecided}
 use Rattle.scan.specs.Rules.{Rules, verdict, Lawful}
 use Rattle.scan.specs.Calls.{State, Answer, datagram, waiting, refused, Fed, refusing, taking, takes, call, feed}
-use Rattle.scan.specs.Calls.{takenWhole, turnedDown, Report, taking-more, none, refuse, wait, hand, skip}
+use Rattle.scan.specs.Calls.{takenWhole, turnedDown, Report, taking-more, Run, none, refuse, wait, hand, skip}
 use Rattle.scan.specs.Stream.{joined, outcome, reports, stream, Bare}
 use Rattle.scan.specs.Carry.{Consumer, tells, told, carriedAfter, Session, freshSession, soundSession, carrying, feedSession, SessionRun}
 use Rattle.scan.specs.Carry.{Invariant, plain, Delivered}
@@ -33,6 +33,16 @@ not-refused p q = absurd (let z : _≡_ {A = ℕ} 0 1 = cc in omega arith)
 
 not-waiting : {O : Type 0} {a : Answer O} {o : O} {A : Type 0} → a ≡ datagram o → a ≡ waiting → A
 not-waiting p q = absurd (let z : _≡_ {A = ℕ} 0 1 = cc in omega arith)
+
+-- a run and another one from where it ends are a run
+pub run-append :
+    {S O : Type 0} {feed : S → List ℕ → Fed S O} {s t t′ : S} {ps qs : List (List ℕ)} {os os′ : List O} {rs rs′ : List Report}
+    → Run feed s ps os rs t → Run feed t qs os′ rs′ t′ → Run feed s (ps ++ qs) (os ++ os′) (rs ++ rs′) t′
+run-append none d = d
+run-append (refuse n e c) d = refuse n e (run-append c d)
+run-append (wait e c) d = wait e (run-append c d)
+run-append (hand e c) d = hand e (run-append c d)
+run-append (skip c) d = skip (run-append c d)
 
 module _ {X O : Type 0} (K : Consumer X O) (R : Rules) where
   -- what refusal 10 asks of a session, by parts
