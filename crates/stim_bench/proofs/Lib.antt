@@ -1,2 +1,3 @@
--- Laws of what a part does.
+-- Laws of what parts and bytes do.
 pub mod PartLaws
+pub mod GatherLaws

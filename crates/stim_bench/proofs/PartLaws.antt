@@ -1,41 +1,120 @@
--- A part that isn't refused: the session behind it is sound, and its lines lie in the buffer. Assumes nothing.
-use Prim.Native.Nat.{ℕ, _≤_}
-use mathlib.Core.Path.{_≡_, sym, ap, _∙_, subst}
-use mathlib.Core.Bool.{Bool, true, false, cond}
+-- The session behind the first bytes of some that are fed one part after the other, and the lines of a part. Assumes nothing.
+use Prim.Native.Nat.{ℕ, _+_, _-_, _≤_, _<_}
+use mathlib.Core.Path.{_≡_, refl, sym, ap, _∙_, subst}
 use mathlib.Core.List.{List, _++_}
 use native.Mathlib.Omega.{arith}
-use lib.ListN.{length, drop, length-append}
+use borrow.Author.Tests.{le-ltb, lt-ltb}
+use lib.ListN.{length, take, drop}
+use lib.Seq.{length-take-le, take-add}
+use Rattle.integers.proofs.Buffers.{to-end}
+use Rattle.setup.specs.declared.Ruling.the-variants.{Refused}
+use Rattle.search.specs.Search.{limitsOf}
 use Rattle.session.specs.declared.Session.{Session}
-use Rattle.lines.specs.Lines.{enough, linesIn, bufferBy, batchOf, batchBuffer}
+use Rattle.admission.specs.Admission.{pieceRuling}
+use Rattle.admission.proofs.Soundness.{sound-facts}
 use Rattle.admission.proofs.PieceRulings.{admits}
-use Rattle.lines.specs.PieceParts.{Permitted}
-use Rattle.lines.specs.declared.Received.{Received}
-use Rattle.lines.specs.declared.Received.the-variants.{Lines}
+use Rattle.lines.specs.Lines.{enough, linesIn, bufferBy, batchOf, batchBuffer}
+use Rattle.lines.specs.declared.Received.the-variants.{Lines, Refused as Down}
 use Rattle.lines.specs.declared.Batch.{Batch}
 use Rattle.lines.proofs.Batches.{all-lines}
-use Rattle.lines.proofs.OneByOne.{behind-sound}
-use Rattle.stim_bench.specs.Bench.{Feedable, FedAtMost}
+use Rattle.lines.proofs.WholePieces.{session-joined, lines-joined, bytes-sound, session-empty}
+use Rattle.stim_bench.specs.Bench.{Feedable, HasLeft, fedWith, partLines, withText}
 
-module _ (s : Session) (p b : List ℕ) (F : Feedable s (length p)) (few : length p ≤ 4096) (room : enough ≤ length b) {r : Batch} (e : r ≡ batchOf s p (length b)) where
-  permitted : Permitted s (length p) (length b)
-  permitted = record { admitted = admits s (length p) (record { sound = F .sound; piece = few; session = F .room }); enough = omega arith }
+-- ---- the session behind bytes may be fed as many bytes as are left
 
-  pub fed-part : FedAtMost s (length p) (r .session)
-  fed-part =
-      subst (λ (x : Batch). FedAtMost s (length p) (x .session)) (sym (e ∙ all-lines s p b permitted))
-      (record { sound = behind-sound s p (F .sound) few (F .room); fed = omega arith })
+module _ (s : Session) (p : List ℕ) where
+  fed-feedable : {n : ℕ} → Feedable s (length p + n) → Feedable (fedWith s p) n
+  unfolding fedWith
+  fed-feedable F = record { sound = bytes-sound s p (F .sound) (omega (arith, F .room)); room = omega (arith, F .room) }
 
-  -- the lines lie in the buffer
-  pub lines-within : {b′ : List ℕ} → b′ ≡ batchBuffer s p b → (n : ℕ) → r .answer ≡ Lines n → n ≤ length b′
+  pub left-behind : {n : ℕ} (k : ℕ) → HasLeft s n → length p + k ≡ n → HasLeft (fedWith s p) k
+  unfolding fedWith
+  left-behind k H e = record { sound = bytes-sound s p (H .sound) (omega (arith, H .room)); room = omega (arith, H .room) }
+
+-- where none is left, some more are refused by 12
+pub none-left : (s : Session) (n : ℕ) → HasLeft s 0 → 0 < n → n ≤ limitsOf (s .setup) .piece → pieceRuling s n ≡ Refused 12
+unfolding pieceRuling
+none-left s n H some few =
+    let l = limitsOf (s .setup) in
+    rw (H .sound, le-ltb (l .piece) n few, lt-ltb (l .session) (s .fed + n) (omega (arith, H .room)))
+
+-- ---- the first bytes of some
+
+module _ (s : Session) (p : List ℕ) where
+  -- the first `at` bytes of p were fed
+  pub record Front (t : Session) (at : ℕ) : Type 0 where
+    pub within : at ≤ length p
+    pub session : t ≡ fedWith s (take at p)
+
+  module _ (F : Feedable s (length p)) where
+    pub front-none : length (s .held) ≡ 64 → Front s 0
+    unfolding fedWith
+    front-none long = record { within = omega arith; session = sym (session-empty s (F .sound) long) }
+
+    module _ {t : Session} {at : ℕ} (G : Front t at) where
+      -- the rest may be fed
+      pub front-feedable : Feedable t (length p - at)
+      front-feedable =
+          subst (λ (x : Session). Feedable x (length p - at)) (sym (G .session))
+          (fed-feedable s (take at p) (record { sound = F .sound; room = omega (arith, F .room, G .within, length-take-le at p (G .within)) }))
+
+      module _ {end : ℕ} (more : at ≤ end) where
+        abbrev part : List ℕ
+        part = take (end - at) (drop at p)
+
+        both : take end p ≡ take at p ++ part
+        both =
+            let k : end ≡ at + (end - at) = omega arith in
+            ap (λ (m : ℕ). take m p) k ∙ take-add at (end - at) p
+
+        -- the bytes from there to another place were fed too
+        pub front-more : end ≤ length p → Front (fedWith t part) end
+        unfolding fedWith
+        front-more most =
+            record {
+              within = most;
+              session =
+                  ap (λ (x : Session). fedWith x part) (G .session)
+                  ∙ session-joined s (take at p) part (sound-facts s (F .sound) .accepted)
+                  ∙ ap (fedWith s) (sym both);
+            }
+
+        -- and their lines come behind the others
+        pub front-lines : linesIn s (take end p) ≡ linesIn s (take at p) ++ linesIn t part
+        unfolding fedWith
+        front-lines =
+            ap (linesIn s) both
+            ∙ lines-joined s (take at p) part (sound-facts s (F .sound) .accepted)
+            ∙ ap (λ (x : Session). linesIn s (take at p) ++ linesIn x part) (sym (G .session))
+
+-- the first k bytes from a place on
+pub part-to : (p : List ℕ) (at k end : ℕ) → end ≡ at + k → take k (take (length p - at) (drop at p)) ≡ take (end - at) (drop at p)
+part-to p at k end e =
+    let m : k ≡ end - at = omega arith in
+    ap (take k) (to-end p at) ∙ ap (λ (n : ℕ). take n (drop at p)) m
+
+-- ---- a part that no number refuses
+
+module _ (s : Session) (p b : List ℕ) (F : Feedable s (length p)) (few : length p ≤ limitsOf (s .setup) .piece) (room : enough ≤ length b) where
+  answered : batchOf s p (length b) ≡ record { answer = Lines (length (linesIn s p)); session = fedWith s p }
+  unfolding fedWith
+  answered = all-lines s p b (record { admitted = admits s (length p) (record { sound = F .sound; piece = few; session = F .room }); enough = room })
+
+  -- its lines are in the buffer
+  pub part-written : batchBuffer s p b ≡ withText (linesIn s p) b
   unfolding batchBuffer
-  lines-within {b′} q n a =
-      let f = e ∙ all-lines s p b permitted in
-      let t : Lines n ≡ Lines (length (linesIn s p)) = sym a ∙ ap (λ (x : Batch). x .answer) f in
-      let m : n ≡ length (linesIn s p) = cc in
-      let g : b′ ≡ linesIn s p ++ drop n b = q ∙ ap (λ (x : Received). bufferBy x (linesIn s p) b) (ap (λ (x : Batch). x .answer) (sym e) ∙ a) in
-      omega (arith, ap length g, length-append (linesIn s p) (drop n b))
+  part-written = ap (λ (x : Batch). bufferBy (x .answer) (linesIn s p) b) answered
 
--- the place behind a part that ends at `end`, or the end of all: not before the part's end, and not behind the end of all
-pub place-behind : (going : Bool) (end all r : ℕ) → end ≤ all → r ≡ cond going end all → (end ≤ r) × (r ≤ all)
-place-behind true end all r h e = (omega arith, omega arith)
-place-behind false end all r h e = (omega arith, omega arith)
+  module _ {r : Batch} (e : r ≡ batchOf s p (length b)) where
+    -- what comes back
+    pub part-fed : {n : ℕ} → r .answer ≡ Lines n → record { session = r .session; used = n } ≡ partLines s p
+    part-fed {n} a =
+        let f = e ∙ answered in
+        let t : Lines n ≡ Lines (length (linesIn s p)) = sym a ∙ ap (λ (x : Batch). x .answer) f in
+        let m : n ≡ length (linesIn s p) = cc in
+        λ i. record { session = f i .session; used = m i }
+
+    pub part-accepted : {n : ℕ} → r .answer ≡ Down n → ⊥
+    part-accepted {n} a =
+        let t : Down n ≡ Lines (length (linesIn s p)) = sym a ∙ ap (λ (x : Batch). x .answer) (e ∙ answered) in
+        let z : _≡_ {A = ℕ} 0 1 = cc in omega arith

@@ -1,15 +1,20 @@
 -- What the contracts of the bench program cite.
 use Prim.Native.Nat.{ℕ, suc, _+_, _≤_, _<_}
 use mathlib.Core.Path.{_≡_}
-use mathlib.Core.Bool.{Bool, true, false, cond}
-use mathlib.Core.List.{List, [], _∷_}
+use mathlib.Core.Bool.{true, cond}
+use mathlib.Core.List.{List, [], _∷_, _++_}
 use lib.Dec.{eqb}
-use Rattle.admission.specs.Admission.{isSound}
+use lib.ListN.{length, take, drop}
+use Rattle.search.specs.Search.{limitsOf}
 use Rattle.session.specs.declared.Session.{Session}
+use Rattle.admission.specs.Admission.{isSound}
+use Rattle.feeding.specs.Feed.{sessionOf}
+use Rattle.lines.specs.Lines.{linesIn, behind}
 use Rattle.stim_bench.specs.declared.Got.{Got}
 use Rattle.stim_bench.specs.declared.Got.the-variants.{Bytes, End, Failed}
-use Rattle.stim_bench.specs.declared.Course.{Course}
-use Rattle.stim_bench.specs.declared.Course.the-variants.{Going, Refused, Closed}
+use Rattle.stim_bench.specs.declared.PartFed.{PartFed}
+use Rattle.stim_bench.specs.declared.Gathered.{Gathered}
+use Rattle.stim_bench.specs.declared.BytesFed.{BytesFed}
 
 -- where the first line of an input ends: at its 0x0A, or with the input
 unfoldable pub lineEnd : List ℕ → ℕ
@@ -22,18 +27,39 @@ GotWithin (Bytes n) size = (0 < n) × (n ≤ size)
 GotWithin End size = 0 ≤ size
 GotWithin Failed size = 0 ≤ size
 
--- the program goes on
-abbrev pub isGoing : Course → Bool
-isGoing Going = true
-isGoing (Refused n) = false
-isGoing Closed = false
-
--- feeding doesn't turn the session down by 10, and n more bytes don't pass the limit
+-- feeding doesn't turn the session down by 10, and n more bytes don't pass its limit
 pub record Feedable (s : Session) (n : ℕ) : Type 0 where
   pub sound : isSound s ≡ true
-  pub room : s .fed + n ≤ 17179869184
+  pub room : s .fed + n ≤ limitsOf (s .setup) .session
 
--- a session after at most n bytes more
-pub record FedAtMost (s : Session) (n : ℕ) (t : Session) : Type 0 where
-  pub sound : isSound t ≡ true
-  pub fed : t .fed ≤ s .fed + n
+-- feeding doesn't turn the session down by 10, and by 12 just what is longer than n bytes
+pub record HasLeft (s : Session) (n : ℕ) : Type 0 where
+  pub sound : isSound s ≡ true
+  pub room : s .fed + n ≡ limitsOf (s .setup) .session
+
+-- the session behind bytes of any number: by the scan of the bytes held and all of these at once
+unfoldable pub fedWith : Session → List ℕ → Session
+fedWith s p = sessionOf (s .setup) (behind s p)
+
+-- what feeding a part gives
+abbrev pub partLines : Session → List ℕ → PartFed
+partLines s p = record { session = fedWith s p; used = length (linesIn s p) }
+
+-- a buffer with a text at its front and every later byte as it was
+abbrev pub withText : List ℕ → List ℕ → List ℕ
+withText text b = text ++ drop (length text) b
+
+-- the first bytes of p were fed, some if there are any: the session behind them, and their lines at the front of the buffer, which was b and is b′
+pub record IsGathered (s : Session) (p b b′ : List ℕ) (r : Gathered) : Type 0 where
+  pub within : r .taken ≤ length p
+  pub some : 0 < length p → 0 < r .taken
+  pub session : r .session ≡ fedWith s (take (r .taken) p)
+  pub used : r .used ≡ length (linesIn s (take (r .taken) p))
+  pub text : b′ ≡ withText (linesIn s (take (r .taken) p)) b
+
+-- bytes were fed: the session behind the first of them, and behind all where standard output took the lines
+pub record AreFed (s : Session) (p : List ℕ) (r : BytesFed) : Type 0 where
+  pub taken : ℕ
+  pub within : taken ≤ length p
+  pub session : r .session ≡ fedWith s (take taken p)
+  pub whole : r .«is_open» ≡ true → r .session ≡ fedWith s p

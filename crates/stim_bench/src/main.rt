@@ -1,10 +1,12 @@
 // The bench program (01, The text line): standard input is a setup line and then the stream, standard output a text line for each datagram.
 ghost use mathlib.Core.Path.{_≡_};
-ghost use mathlib.Core.Bool.{not, cond};
 ghost use Prim.Native.Nat.{_+_, _-_, _≤_, _<_, min};
 ghost use lib.ListN.{length};
-ghost use Rattle.lines.specs.Lines.{enough};
-ghost use Rattle.stim_bench.specs.Bench.{lineEnd, GotWithin, isGoing, Feedable, FedAtMost};
+ghost use Rattle.setup.specs.declared.Ruling.the-variants.{Refused};
+ghost use Rattle.search.specs.Search.{limitsOf};
+ghost use Rattle.admission.specs.Admission.{pieceRuling};
+ghost use Rattle.lines.specs.Lines.{linesIn, enough};
+ghost use Rattle.stim_bench.specs.Bench.{lineEnd, GotWithin, Feedable, HasLeft, partLines, withText, IsGathered, AreFed};
 use libc::STDERR_FILENO;
 use libc::STDIN_FILENO;
 use libc::STDOUT_FILENO;
@@ -12,6 +14,14 @@ use lines::Received;
 use session::Session;
 use setup::Ruling;
 use setup::Setup;
+
+// The most bytes of a piece and of a session, 2^34 (01, What is turned down, 11 and 12).
+const PIECE_LIMIT: usize = 4096;
+
+const SESSION_LIMIT: u64 = 17179869184;
+
+// So many bytes have room for the lines of any piece.
+const ENOUGH: usize = 72000;
 
 // What one read gave.
 enum Got {
@@ -26,17 +36,23 @@ struct FirstBytes {
     last: Got,
 }
 
-// Whether to go on: a number that refused a call ends the program, and so does a standard output that takes nothing more.
-enum Course {
-    Going,
-    Refused(u8),
-    Closed,
-}
-
-// What a part that was fed leaves: the session, and whether to go on.
+// What a part that was fed leaves: the session, and how many bytes of lines stand at the front of the buffer.
 struct PartFed {
     session: Session,
-    course: Course,
+    used: usize,
+}
+
+// The same of the first bytes of some that are to be fed, and how many bytes those are.
+struct Gathered {
+    session: Session,
+    taken: usize,
+    used: usize,
+}
+
+// What bytes that were fed leave: the session, and whether standard output took their lines.
+struct BytesFed {
+    session: Session,
+    is_open: bool,
 }
 
 // The lesser of two numbers.
@@ -46,23 +62,16 @@ fn least(a: usize, b: usize) -> usize
     if a < b { a } else { b }
 }
 
-// Where a part ends that begins at a place: 4,096 bytes further on, or at the end.
-fn part_end(at: usize, length: usize) -> usize
+// Where a part ends that begins at a place: as many bytes further on as it may have at most, or at the end.
+fn part_end(at: usize, length: usize, most: usize) -> usize
     requires { ⌜ at ≤ length ⌝ }
-    ensures { λ r. ⌜ r ≡ min (at + 4096) length ⌝ }
+    ensures { λ r. ⌜ r ≡ min (at + most) length ⌝ }
 {
-    if length - at < 4096 {
+    if length - at < most {
         length
     } else {
-        at + 4096
+        at + most
     }
-}
-
-// Where to go on behind a part: nowhere if the program ends.
-fn next_place(end: usize, length: usize, going: bool) -> usize
-    ensures { λ r. ⌜ r ≡ cond going end length ⌝ }
-{
-    if going { end } else { length }
 }
 
 // Where the first line ends: at its 0x0A, or with the bytes.
@@ -113,29 +122,21 @@ fn print_refusal(number: u8) {
     }
 }
 
-fn is_going(course: Course) -> bool
-    ensures { λ r. ⌜ r ≡ isGoing course ⌝ }
+// Writes out the lines of bytes that a session is fed, and tells whether standard output took them. Only the contract speaks of session and bytes.
+fn write_lines(session: Session, bytes: &[u8], lines: &[u8]) -> bool
+    requires { ⌜ now lines ≡ linesIn session (now bytes) ⌝ }
 {
-    match course {
-        Course::Going => true,
-        Course::Refused(number) => false,
-        Course::Closed => false,
-    }
-}
-
-// Writes out lines, if standard output takes them.
-fn write_out(lines: &[u8]) -> Course {
     if io::write_all(STDOUT_FILENO, lines) {
-        return Course::Going;
+        return true;
     }
     tell_closed();
-    Course::Closed
+    false
 }
 
-// Feeds a part of at most 4,096 bytes, and writes out its lines.
+// Feeds a part that no number refuses: its lines come to the front of the buffer.
 fn feed_part(session: Session, part: &[u8], output: &mut [u8]) -> PartFed
-    requires { ⌜ Feedable session (length (now part)) × (length (now part) ≤ 4096) × (enough ≤ length (now output)) ⌝ }
-    ensures { λ r. ⌜ FedAtMost session (length (now (part .entry))) (r .session) ⌝ }
+    requires { ⌜ Feedable session (length (now part)) × (length (now part) ≤ limitsOf (session .setup) .piece) × (enough ≤ length (now output)) ⌝ }
+    ensures { λ r. ⌜ r ≡ partLines session (now (part .entry)) ⌝ ∗ ⌜ now (output .exit) ≡ withText (linesIn session (now (part .entry))) (now (output .entry)) ⌝ }
 {
     let batch = lines::receive_lines(session, part, output);
     let answer = batch.answer;
@@ -143,47 +144,61 @@ fn feed_part(session: Session, part: &[u8], output: &mut [u8]) -> PartFed
     match answer {
         Received::Lines(count) => PartFed {
             session: next,
-            course: write_out(&output[..count]),
+            used: count,
         },
         Received::Refused(number) => PartFed {
             session: next,
-            course: Course::Refused(number),
+            used: 0,
         },
     }
 }
 
-// Feeds bytes in parts.
-fn feed_bytes(start: Session, bytes: &[u8], output: &mut [u8]) -> PartFed
+// Feeds bytes in parts, whose lines come one behind the other into the buffer, until all are fed or another part's lines may find no room.
+fn gather(start: Session, bytes: &[u8], output: &mut [u8]) -> Gathered
     requires { ⌜ Feedable start (length (now bytes)) × (enough ≤ length (now output)) ⌝ }
-    ensures { λ r. ⌜ FedAtMost start (length (now (bytes .entry))) (r .session) ⌝ }
+    ensures { λ r. ⌜ IsGathered start (now (bytes .entry)) (now (output .entry)) (now (output .exit)) r ⌝ }
 {
     let mut session = start;
-    let mut course = Course::Going;
     let mut at: usize = 0;
-    while at < bytes.len() {
-        let end = part_end(at, bytes.len());
-        let progress = feed_part(session, &bytes[at..end], output);
-        session = progress.session;
-        course = progress.course;
-        at = next_place(end, bytes.len(), is_going(course));
+    let mut used: usize = 0;
+    while at < bytes.len() && ENOUGH <= output.len() - used {
+        let end = part_end(at, bytes.len(), PIECE_LIMIT);
+        let fed = feed_part(session, &bytes[at..end], &mut output[used..]);
+        session = fed.session;
+        used += fed.used;
+        at = end;
     }
-    PartFed {
+    Gathered {
         session: session,
-        course: course,
+        taken: at,
+        used: used,
     }
 }
 
-// Whether the program ends here. The number of a refusal is printed.
-fn has_ended(course: Course) -> bool
-    ensures { λ r. ⌜ r ≡ not (isGoing course) ⌝ }
+// Feeds bytes and writes out their lines, as many at once as the buffer has room for.
+fn feed_bytes(start: Session, bytes: &[u8], output: &mut [u8]) -> BytesFed
+    requires { ⌜ Feedable start (length (now bytes)) × (enough ≤ length (now output)) ⌝ }
+    ensures { λ r. ⌜ AreFed start (now (bytes .entry)) r ⌝ }
 {
-    match course {
-        Course::Going => false,
-        Course::Closed => true,
-        Course::Refused(number) => {
-            print_refusal(number);
-            true
+    let mut session = start;
+    let mut at: usize = 0;
+    while at < bytes.len() {
+        let gathered = gather(session, &bytes[at..], output);
+        let end = at + gathered.taken;
+        let used = gathered.used;
+        let is_open = write_lines(session, &bytes[at..end], &output[..used]);
+        session = gathered.session;
+        if !is_open {
+            return BytesFed {
+                session: session,
+                is_open: false,
+            };
         }
+        at = end;
+    }
+    BytesFed {
+        session: session,
+        is_open: true,
     }
 }
 
@@ -198,9 +213,16 @@ fn fitting(count: usize, allowed: u64) -> usize
     }
 }
 
-// Feeds what each read gives, until the input ends or one byte more than allowed comes.
+// Prints that a piece of so many bytes more is refused. Only the contract speaks of session and length.
+fn refuse_piece(session: Session, length: usize, number: u8)
+    requires { ⌜ pieceRuling session length ≡ Refused number ⌝ }
+{
+    print_refusal(number);
+}
+
+// Feeds what each read gives, until the input ends or one byte more comes than a session takes.
 fn receive_rest(start: Session, input: &mut [u8], output: &mut [u8], allowed: u64)
-    requires { ⌜ Feedable start allowed × (enough ≤ length (now output)) ⌝ }
+    requires { ⌜ HasLeft start allowed × (enough ≤ length (now output)) ⌝ }
 {
     let mut session = start;
     let mut left = allowed;
@@ -210,32 +232,35 @@ fn receive_rest(start: Session, input: &mut [u8], output: &mut [u8], allowed: u6
             return;
         };
         let fed = fitting(count, left);
-        let progress = feed_bytes(session, &input[..fed], output);
-        session = progress.session;
-        let course = progress.course;
-        if has_ended(course) {
+        let behind = feed_bytes(session, &input[..fed], output);
+        session = behind.session;
+        if !behind.is_open {
             return;
         }
         if fed < count {
-            print_refusal(12);
+            refuse_piece(session, 1, 12);
             return;
         }
         left -= count as u64;
     }
 }
 
-// Receives the stream, whose first bytes lie in the input buffer already: 2^34 bytes, and one more is refused.
+// Receives the stream, whose first bytes lie in the input buffer already: a session's bytes, and one more is refused.
 fn receive(start: Session, input: &mut [u8], output: &mut [u8], from: usize, filled: usize)
-    requires { ⌜ (from ≤ filled) × (filled ≤ length (now input)) × (filled ≤ 65536) × (enough ≤ length (now output)) ⌝ }
-    requires { ⌜ Feedable start 17179869184 ⌝ }
+    requires { ⌜ (from ≤ filled) × (filled ≤ length (now input)) × (filled ≤ limitsOf (start .setup) .session) × (enough ≤ length (now output)) ⌝ }
+    requires { ⌜ HasLeft start (limitsOf (start .setup) .session) ⌝ }
 {
-    let progress = feed_bytes(start, &input[from..filled], output);
-    let session = progress.session;
-    let course = progress.course;
-    if has_ended(course) {
+    let behind = feed_bytes(start, &input[from..filled], output);
+    let session = behind.session;
+    if !behind.is_open {
         return;
     }
-    receive_rest(session, input, output, 17179869184 - (filled - from) as u64);
+    receive_rest(
+        session,
+        input,
+        output,
+        SESSION_LIMIT - (filled - from) as u64,
+    );
 }
 
 // Reads until the first line is known: its 0x0A came, or 65 bytes, or the input ended.
@@ -291,7 +316,7 @@ fn run(input: &mut [u8], output: &mut [u8])
     }
 }
 
-// Room for the lines of any part.
+// Room for the lines of several parts.
 fn line_room() -> [u8; 131072]
     ensures { λ r. ⌜ 131072 ≡ length r ⌝ }
 {

@@ -1,6 +1,14 @@
 -- `stim_bench::receive` meets its contract: what is allowed yet is what the first bytes left. Assumes nothing.
+use Prim.Native.Nat.{_-_}
+use mathlib.Core.Path.{sym, subst}
 use native.Mathlib.Omega.{arith}
 use borrow.Author.Needs.{needs}
+use borrow.Author.Tests.{not-false}
+use lib.ListN.{take, drop}
+use Rattle.search.specs.Search.{limitsOf}
+use Rattle.session.specs.declared.Session.{Session}
+use Rattle.stim_bench.specs.Bench.{HasLeft}
+use Rattle.stim_bench.proofs.PartLaws.{left-behind}
 use Rattle.stim_bench.proofs.receive.Statement.{statement}
 use Rattle.stim_bench.proofs.receive.Tie as tie
 
@@ -15,9 +23,6 @@ part-feed-bytes-end c = search needs
 
 feed-bytes-requires : tie.Need-feed-bytes-requires
 feed-bytes-requires c κs = search needs
-
-has-ended-requires : tie.Need-has-ended-requires
-has-ended-requires c κs = search needs
 
 same-length : tie.Need-same-length
 same-length c = search needs
@@ -36,10 +41,13 @@ sub-receive-rest-2 c = search needs
 
 receive-rest-requires : tie.Need-receive-rest-requires
 receive-rest-requires c κs =
-    let m = c .before .before .before .before .before .before .before .feed-bytes .ensures in
-    let p = c .before .before .before .before .before .before .before .before .before .before .before .before .before .pre in (
-      record { sound = m .sound; room = omega (arith, m .fed, p .1 .room, p .0 .0, p .0 .2, c .before .before .before .before .before .before .before .before .before .feed-bytes-arg .given) },
-      omega (arith, p .0 .3, c .before .before .before .before .before .before .output .given),
+    let s = c .before .before .before .before .before .before .before .before .before .before .before .before .before in
+    let f = c .before .before .before .before .before .before .before .feed-bytes in
+    let k = limitsOf (s .args .start .setup) .session - (s .args .filled - s .args .from) in
+    let p = take (s .args .filled - s .args .from) (drop (s .args .from) (s .args .input .now)) in (
+      subst (λ (x : Session). HasLeft x k) (sym (f .ensures .whole (not-false (f .result .«is_open») (c .before .before .if1 .left))))
+          (left-behind (s .args .start) p k (s .pre .1) (omega (arith, s .pre .0, c .before .before .before .before .before .before .before .before .before .feed-bytes-arg .given))),
+      omega (arith, s .pre .0 .3, c .before .before .before .before .before .before .output .given),
     )
 
 same-length-3 : tie.Need-same-length-3
@@ -59,7 +67,6 @@ receive-spec =
     part-feed-bytes-start
     part-feed-bytes-end
     feed-bytes-requires
-    has-ended-requires
     same-length
     same-length-2
     returns

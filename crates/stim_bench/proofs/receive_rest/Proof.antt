@@ -1,16 +1,20 @@
--- `stim_bench::receive_rest` meets its contract: each turn takes from the bytes still allowed. Assumes nothing.
-use mathlib.Core.Path.{_≡_, sym}
+-- `stim_bench::receive_rest` meets its contract: each turn takes from the bytes still allowed, and 12 refuses one more than those. Assumes nothing.
+use Prim.Native.Nat.{ℕ, _+_, _≤_, _<_}
+use mathlib.Core.Path.{_≡_, sym, subst}
 use native.Mathlib.Omega.{arith}
 use lib.ListN.{length, take}
 use lib.Seq.{length-take-le}
 use borrow.Author.Needs.{needs}
-use Rattle.stim_bench.specs.Bench.{Feedable}
+use borrow.Author.Tests.{not-false}
+use Rattle.session.specs.declared.Session.{Session}
+use Rattle.stim_bench.specs.Bench.{HasLeft}
+use Rattle.stim_bench.proofs.PartLaws.{left-behind, none-left}
 use Rattle.stim_bench.proofs.receive_rest.Statement.{statement}
 use Rattle.stim_bench.proofs.receive_rest.Tie as tie
 
 abbrev Inv-loop : tie.InvT-loop
 Inv-loop input₀ output₀ allowed session₀ left₀ input output session left =
-    (length input ≡ length input₀) × (length output ≡ length output₀) × Feedable session left
+    (length input ≡ length input₀) × (length output ≡ length output₀) × HasLeft session left
 
 abbrev μ-loop : tie.MeasureT-loop
 μ-loop input₀ output₀ allowed session₀ left₀ input output session left = left
@@ -37,28 +41,28 @@ returns c = search needs
 fitting-requires : tie.Need-fitting-requires Inv-loop μ-loop
 fitting-requires c κs = search needs
 
-slice-reshare-prefix-feed-bytes : tie.Need-slice-reshare-prefix-feed-bytes Inv-loop μ-loop
-slice-reshare-prefix-feed-bytes c =
-    let g = rw (c .before .before .got .given .1) at (c .before .before .before .before .before .before .read-some .ensures) in
-    omega (arith, c .fitting .ensures)
+-- bytes came, and as many as are fed are there
+came : (c : tie.After-fitting Inv-loop μ-loop) →
+    let input = c .before .before .before .before .before .before .read-some .last .0 in
+    (0 < c .before .before .got .given .0 .0) × (c .fitting .result ≤ length input) × (length (take (c .fitting .result) input) ≡ c .fitting .result)
+came c =
+    let r = c .before .before .before .before .before .before .read-some in
+    let g = rw (c .before .before .got .given .1) at (r .ensures) in
+    let l : c .fitting .result ≤ length (r .last .0) = omega (arith, c .fitting .ensures) in
+    (omega arith, l, length-take-le (c .fitting .result) (r .last .0) l)
 
-fed-long : (c : tie.After-feed-bytes-arg Inv-loop μ-loop) → length (take (c .before .fitting .result) (c .before .before .before .before .before .before .before .read-some .last .0)) ≡ c .before .fitting .result
-fed-long c =
-    let g = rw (c .before .before .before .got .given .1) at (c .before .before .before .before .before .before .before .read-some .ensures) in
-    length-take-le (c .before .fitting .result) (c .before .before .before .before .before .before .before .read-some .last .0) (omega arith)
+slice-reshare-prefix-feed-bytes : tie.Need-slice-reshare-prefix-feed-bytes Inv-loop μ-loop
+slice-reshare-prefix-feed-bytes c = came c .1
 
 slice-aggregate-feed-bytes : tie.Need-slice-aggregate-feed-bytes Inv-loop μ-loop
-slice-aggregate-feed-bytes c = sym (fed-long c)
+slice-aggregate-feed-bytes c = sym (came (c .before) .2)
 
 feed-bytes-requires : tie.Need-feed-bytes-requires Inv-loop μ-loop
 feed-bytes-requires c κs =
     let v = c .before .before .before .before .before .before .before .before .before .before .loop .inv in (
-      record { sound = v .2 .sound; room = omega (arith, v .2 .room, fed-long (c .before), c .before .before .fitting .ensures) },
+      record { sound = v .2 .sound; room = omega (arith, v .2 .room, came (c .before .before) .2, c .before .before .fitting .ensures) },
       omega (arith, v .1, c .before .before .before .before .before .before .before .before .before .before .before .before .before .pre .1),
     )
-
-has-ended-requires : tie.Need-has-ended-requires Inv-loop μ-loop
-has-ended-requires c κs = search needs
 
 same-length-3 : tie.Need-same-length-3 Inv-loop μ-loop
 same-length-3 c = omega (arith, c .before .before .before .before .before .before .before .before .before .before .before .before .before .input .given, c .before .before .before .before .before .before .before .before .before .before .before .before .before .before .before .before .loop .inv .0)
@@ -69,8 +73,18 @@ same-length-4 c = omega (arith, c .before .before .before .before .output .given
 returns-2 : tie.Need-returns-2 Inv-loop μ-loop
 returns-2 c = search needs
 
-print-refusal-requires : tie.Need-print-refusal-requires Inv-loop μ-loop
-print-refusal-requires c κs = search needs
+-- the session that comes back may be fed as many bytes as are left
+fed : (c : tie.Else1 Inv-loop μ-loop) (k : ℕ) → c .before .before .before .before .before .before .before .before .fitting .result + k ≡ c .before .before .before .before .before .before .before .before .before .before .before .before .before .before .before .before .loop .left → HasLeft (c .before .before .before .before .before .feed-bytes .result .session) k
+fed c k e =
+    let v = c .before .before .before .before .before .before .before .before .before .before .before .before .before .before .before .before .loop in
+    let f = c .before .before .before .before .before .feed-bytes in
+    let p = take (c .before .before .before .before .before .before .before .before .fitting .result) (c .before .before .before .before .before .before .before .before .before .before .before .before .before .before .read-some .last .0) in
+    subst (λ (x : Session). HasLeft x k) (sym (f .ensures .whole (not-false (f .result .«is_open») (c .if1 .left))))
+    (left-behind (v .session) p k (v .inv .2) (omega (arith, came (c .before .before .before .before .before .before .before .before) .2)))
+
+refuse-piece-requires : tie.Need-refuse-piece-requires Inv-loop μ-loop
+refuse-piece-requires c κs =
+    none-left (c .before .before .before .before .before .before .feed-bytes .result .session) 1 (fed (c .before) 0 (omega (arith, c .before .before .before .before .before .before .before .before .before .fitting .ensures, c .if2 .taken))) (omega arith) (omega arith)
 
 same-length-5 : tie.Need-same-length-5 Inv-loop μ-loop
 same-length-5 c = omega (arith, c .before .before .before .before .before .before .before .before .before .before .before .before .before .before .before .input .given, c .before .before .before .before .before .before .before .before .before .before .before .before .before .before .before .before .before .before .loop .inv .0)
@@ -82,22 +96,17 @@ returns-3 : tie.Need-returns-3 Inv-loop μ-loop
 returns-3 c = search needs
 
 sub-left : tie.Need-sub-left Inv-loop μ-loop
-sub-left c =
-    let g = rw (c .before .before .before .before .before .before .before .before .before .before .before .got .given .1) at (c .before .before .before .before .before .before .before .before .before .before .before .before .before .before .before .read-some .ensures) in
-    omega (arith, c .before .before .before .before .before .before .before .before .before .fitting .ensures)
+sub-left c = omega (arith, c .before .before .before .before .before .before .before .before .before .fitting .ensures, c .if2 .left)
 
 loop-less : tie.Need-loop-less Inv-loop μ-loop
-loop-less c =
-    let g = rw (c .before .before .before .before .before .before .before .before .before .before .before .got .given .1) at (c .before .before .before .before .before .before .before .before .before .before .before .before .before .before .before .read-some .ensures) in
-    omega (arith, c .before .before .before .before .before .before .before .before .before .fitting .ensures)
+loop-less c = omega (arith, came (c .before .before .before .before .before .before .before .before .before) .0, c .before .before .before .before .before .before .before .before .before .fitting .ensures, c .if2 .left)
 
 loop-again : tie.Need-loop-again Inv-loop μ-loop
 loop-again c =
-    let v = c .before .before .before .before .before .before .before .before .before .before .before .before .before .before .before .before .before .loop .inv in
-    let m = c .before .before .before .before .before .before .feed-bytes .ensures in (
+    let v = c .before .before .before .before .before .before .before .before .before .before .before .before .before .before .before .before .before .loop .inv in (
       omega (arith, v .0, c .before .before .before .before .before .before .before .before .before .before .before .before .before .before .input .given),
       omega (arith, v .1, c .before .before .before .before .before .output .given),
-      record { sound = m .sound; room = omega (arith, v .2 .room, m .fed, fed-long (c .before .before .before .before .before .before .before .before), c .before .before .before .before .before .before .before .before .before .fitting .ensures, c .if2 .left) },
+      fed (c .before) _ (omega (arith, c .before .before .before .before .before .before .before .before .before .fitting .ensures, c .if2 .left)),
     )
 
 pub receive-rest-spec : {M : Type 1} → statement M
@@ -116,11 +125,10 @@ receive-rest-spec =
     slice-reshare-prefix-feed-bytes
     slice-aggregate-feed-bytes
     feed-bytes-requires
-    has-ended-requires
     same-length-3
     same-length-4
     returns-2
-    print-refusal-requires
+    refuse-piece-requires
     same-length-5
     same-length-6
     returns-3

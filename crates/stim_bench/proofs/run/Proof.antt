@@ -11,23 +11,26 @@ use Rattle.setup.specs.declared.Ruling.the-variants.{Accepted}
 use Rattle.setup_line.specs.SetupLine.{lineRead}
 use Rattle.setup_line.specs.declared.LineRead.{LineRead}
 use Rattle.setup_line.proofs.LineAnswers.{accepted-line}
+use Rattle.search.specs.Search.{limitsOf}
 use Rattle.session.specs.Session.{freshOf, opening}
 use Rattle.session.specs.declared.Opened.{Opened}
 use Rattle.session.proofs.Opening.{opened}
 use Rattle.admission.proofs.FreshSessions.{fresh-sound}
-use Rattle.stim_bench.specs.Bench.{Feedable}
+use Rattle.stim_bench.specs.Bench.{HasLeft}
 use Rattle.stim_bench.proofs.run.Statement.{statement}
 use Rattle.stim_bench.proofs.run.Tie as tie
 
--- the session that an accepted line opens may be fed the whole stream
-fresh-feedable : (l : List ℕ) (r : LineRead) (o : Opened) → r ≡ lineRead l → r .answer ≡ Accepted → o ≡ opening (r .setup) → Feedable (o .session) 17179869184
+-- the session that an accepted line opens has a session's bytes left
+fresh-left :
+    (l : List ℕ) (r : LineRead) (o : Opened) → r ≡ lineRead l → r .answer ≡ Accepted → o ≡ opening (r .setup)
+    → HasLeft (o .session) (limitsOf (o .session .setup) .session)
 unfolding freshOf
-fresh-feedable l r o p q e =
+fresh-left l r o p q e =
     let u = r .setup in
     let a : lineRead l .answer ≡ Accepted = ap (λ (x : LineRead). x .answer) (sym p) ∙ q in
     let ok : rulingOn u ≡ Accepted = ap (λ (x : LineRead). rulingOn (x .setup)) p ∙ accepted-line l a .1 in
     let f : o ≡ record { answer = Accepted; session = freshOf u } = e ∙ opened u ok in
-    subst (λ (x : Opened). Feedable (x .session) 17179869184) (sym f) (record { sound = fresh-sound u ok; room = omega arith })
+    subst (λ (x : Opened). HasLeft (x .session) (limitsOf (x .session .setup) .session)) (sym f) (record { sound = fresh-sound u ok; room = omega arith })
 
 read-first-bytes-requires : tie.Need-read-first-bytes-requires
 read-first-bytes-requires c κs = search needs
@@ -102,7 +105,7 @@ receive-requires c κs =
     let p = c .before .before .before .before .before .before .before .before .before .before .before .before .before .before .before .before .before .before .before .before .before .before .pre in
     let r = c .before .before .before .before .before .before .before .before .before .before .before .read-line in (
       (omega (arith, c .least .ensures), omega (arith, f), omega (arith, f, c .before .before .before .before .before .before .before .before .before .before .before .before .before .before .before .before .before .input .given, p), omega (arith, p)),
-      fresh-feedable _ (r .result) (c .before .before .before .before .«open» .result) (r .ensures) (c .before .before .before .before .before .before .before .before .enum-told2 .given .1) (c .before .before .before .before .«open» .ensures),
+      fresh-left _ (r .result) (c .before .before .before .before .«open» .result) (r .ensures) (c .before .before .before .before .before .before .before .before .enum-told2 .given .1) (c .before .before .before .before .«open» .ensures),
     )
 
 same-length-3 : tie.Need-same-length-3
