@@ -1,11 +1,14 @@
 -- What the contracts of the bench program cite.
-use Prim.Native.Nat.{ℕ, suc, _+_, _≤_, _<_}
+use Prim.Native.Nat.{ℕ, suc, _+_, _≤_, _<_, min}
 use mathlib.Core.Path.{_≡_}
 use mathlib.Core.Bool.{true, cond}
 use mathlib.Core.List.{List, [], _∷_, _++_}
 use lib.Dec.{eqb}
 use lib.ListN.{length, take, drop}
+use Rattle.setup.specs.declared.Ruling.the-variants.{Accepted}
+use Rattle.setup_line.specs.SetupLine.{lineRead}
 use Rattle.search.specs.Search.{limitsOf}
+use Rattle.session.specs.Session.{opening}
 use Rattle.session.specs.declared.Session.{Session}
 use Rattle.admission.specs.Admission.{isSound}
 use Rattle.feeding.specs.Feed.{sessionOf}
@@ -20,6 +23,15 @@ use Rattle.stim_bench.specs.declared.BytesFed.{BytesFed}
 unfoldable pub lineEnd : List ℕ → ℕ
 lineEnd [] = 0
 lineEnd (b ∷ s) = cond (eqb b 0x0A) 0 (suc (lineEnd s))
+
+abbrev pub firstLine : List ℕ → List ℕ
+firstLine l = take (lineEnd l) l
+
+-- the first line of the bytes l is accepted as a setup line, s is the session that it opens, and the stream begins behind its 0x0A
+pub record Opens (l : List ℕ) (s : Session) (from : ℕ) : Type 0 where
+  pub accepted : lineRead (firstLine l) .answer ≡ Accepted
+  pub session : s ≡ opening (lineRead (firstLine l) .setup) .session
+  pub place : from ≡ min (lineEnd l + 1) (length l)
 
 -- bytes that a read gave are one or more, and lie in the buffer
 abbrev pub GotWithin : Got → ℕ → Type 0

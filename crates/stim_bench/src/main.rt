@@ -1,12 +1,13 @@
 // The bench program (01, The text line): standard input is a setup line and then the stream, standard output a text line for each datagram.
 ghost use mathlib.Core.Path.{_≡_};
 ghost use Prim.Native.Nat.{_+_, _-_, _≤_, _<_, min};
-ghost use lib.ListN.{length};
+ghost use lib.ListN.{length, take};
 ghost use Rattle.setup.specs.declared.Ruling.the-variants.{Refused};
+ghost use Rattle.setup_line.specs.SetupLine.{lineRead};
 ghost use Rattle.search.specs.Search.{limitsOf};
 ghost use Rattle.admission.specs.Admission.{pieceRuling};
 ghost use Rattle.lines.specs.Lines.{linesIn, enough};
-ghost use Rattle.stim_bench.specs.Bench.{lineEnd, GotWithin, Feedable, HasLeft, partLines, withText, IsGathered, AreFed};
+ghost use Rattle.stim_bench.specs.Bench.{lineEnd, firstLine, Opens, GotWithin, Feedable, HasLeft, partLines, withText, IsGathered, AreFed};
 use libc::STDERR_FILENO;
 use libc::STDIN_FILENO;
 use libc::STDOUT_FILENO;
@@ -159,18 +160,18 @@ fn gather(start: Session, bytes: &[u8], output: &mut [u8]) -> Gathered
     ensures { λ r. ⌜ IsGathered start (now (bytes .entry)) (now (output .entry)) (now (output .exit)) r ⌝ }
 {
     let mut session = start;
-    let mut at: usize = 0;
+    let mut taken: usize = 0;
     let mut used: usize = 0;
-    while at < bytes.len() && ENOUGH <= output.len() - used {
-        let end = part_end(at, bytes.len(), PIECE_LIMIT);
-        let fed = feed_part(session, &bytes[at..end], &mut output[used..]);
+    while taken < bytes.len() && ENOUGH <= output.len() - used {
+        let end = part_end(taken, bytes.len(), PIECE_LIMIT);
+        let fed = feed_part(session, &bytes[taken..end], &mut output[used..]);
         session = fed.session;
         used += fed.used;
-        at = end;
+        taken = end;
     }
     Gathered {
         session: session,
-        taken: at,
+        taken: taken,
         used: used,
     }
 }
@@ -248,7 +249,7 @@ fn receive_rest(start: Session, input: &mut [u8], output: &mut [u8], allowed: u6
 // Receives the stream, whose first bytes lie in the input buffer already: a session's bytes, and one more is refused.
 fn receive(start: Session, input: &mut [u8], output: &mut [u8], from: usize, filled: usize)
     requires { ⌜ (from ≤ filled) × (filled ≤ length (now input)) × (filled ≤ limitsOf (start .setup) .session) × (enough ≤ length (now output)) ⌝ }
-    requires { ⌜ HasLeft start (limitsOf (start .setup) .session) ⌝ }
+    requires { ⌜ Opens (take filled (now input)) start from ⌝ }
 {
     let behind = feed_bytes(start, &input[from..filled], output);
     let session = behind.session;
@@ -291,6 +292,13 @@ fn read_first_bytes(input: &mut [u8]) -> FirstBytes
     }
 }
 
+// Prints that the first line of the input is refused. Only the contract speaks of the bytes.
+fn refuse_line(bytes: &[u8], number: u8)
+    requires { ⌜ lineRead (firstLine (now bytes)) .answer ≡ Refused number ⌝ }
+{
+    print_refusal(number);
+}
+
 // Judges the first line and receives what comes behind it.
 fn run(input: &mut [u8], output: &mut [u8])
     requires { ⌜ (65536 ≡ length (now input)) × (131072 ≡ length (now output)) ⌝ }
@@ -306,7 +314,7 @@ fn run(input: &mut [u8], output: &mut [u8])
     let setup = line.setup;
     let answer = line.answer;
     if let Ruling::Refused(number) = answer {
-        print_refusal(number);
+        refuse_line(&input[..filled], number);
         return;
     }
     if let Got::Bytes(count) = last {

@@ -11,10 +11,10 @@ use Rattle.stim_bench.proofs.gather.Statement.{statement}
 use Rattle.stim_bench.proofs.gather.Tie as tie
 
 abbrev Inv-loop : tie.InvT-loop
-Inv-loop bytes output₀ session₀ at₀ used₀ output session at used = Gathering session₀ bytes output₀ output session at used
+Inv-loop bytes output₀ session₀ taken₀ used₀ output session taken used = Gathering session₀ bytes output₀ output session taken used
 
 abbrev μ-loop : tie.MeasureT-loop
-μ-loop bytes output₀ session₀ at₀ used₀ output session at used = length bytes - at
+μ-loop bytes output₀ session₀ taken₀ used₀ output session taken used = length bytes - taken
 
 loop-holds : tie.Need-loop-holds Inv-loop μ-loop
 loop-holds c =

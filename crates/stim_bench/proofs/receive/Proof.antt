@@ -8,6 +8,7 @@ use lib.ListN.{take, drop}
 use Rattle.search.specs.Search.{limitsOf}
 use Rattle.session.specs.declared.Session.{Session}
 use Rattle.stim_bench.specs.Bench.{HasLeft}
+use Rattle.stim_bench.proofs.LineLaws.{opened-left}
 use Rattle.stim_bench.proofs.PartLaws.{left-behind}
 use Rattle.stim_bench.proofs.receive.Statement.{statement}
 use Rattle.stim_bench.proofs.receive.Tie as tie
@@ -22,7 +23,10 @@ part-feed-bytes-end : tie.Need-part-feed-bytes-end
 part-feed-bytes-end c = search needs
 
 feed-bytes-requires : tie.Need-feed-bytes-requires
-feed-bytes-requires c κs = search needs
+feed-bytes-requires c κs =
+    let s = c .before .before .before .before .before in
+    let h = opened-left (s .pre .1) in
+    (record { sound = h .sound; room = omega (arith, h .room, s .pre .0, c .before .feed-bytes-arg .given) }, s .pre .0 .3)
 
 same-length : tie.Need-same-length
 same-length c = search needs
@@ -46,7 +50,7 @@ receive-rest-requires c κs =
     let k = limitsOf (s .args .start .setup) .session - (s .args .filled - s .args .from) in
     let p = take (s .args .filled - s .args .from) (drop (s .args .from) (s .args .input .now)) in (
       subst (λ (x : Session). HasLeft x k) (sym (f .ensures .whole (not-false (f .result .«is_open») (c .before .before .if1 .left))))
-          (left-behind (s .args .start) p k (s .pre .1) (omega (arith, s .pre .0, c .before .before .before .before .before .before .before .before .before .feed-bytes-arg .given))),
+          (left-behind (s .args .start) p k (opened-left (s .pre .1)) (omega (arith, s .pre .0, c .before .before .before .before .before .before .before .before .before .feed-bytes-arg .given))),
       omega (arith, s .pre .0 .3, c .before .before .before .before .before .before .output .given),
     )
 

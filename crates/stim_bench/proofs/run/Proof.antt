@@ -1,36 +1,13 @@
--- `stim_bench::run` meets its contract: the line ends within the bytes that were read, and an accepted line opens a fresh session. Assumes nothing.
-use Prim.Native.Nat.{ℕ, _≤_}
-use mathlib.Core.Path.{_≡_, sym, ap, subst, _∙_}
-use mathlib.Core.List.{List}
+-- `stim_bench::run` meets its contract: the line ends within the bytes that were read, and what it opens and where the stream begins is passed on. Assumes nothing.
+use Prim.Native.Nat.{_≤_}
+use mathlib.Core.Path.{_≡_, sym}
 use native.Mathlib.Omega.{arith}
 use lib.ListN.{length, take}
 use lib.Seq.{length-take-le}
 use borrow.Author.Needs.{needs}
-use Rattle.setup.specs.Setup.{rulingOn}
-use Rattle.setup.specs.declared.Ruling.the-variants.{Accepted}
-use Rattle.setup_line.specs.SetupLine.{lineRead}
-use Rattle.setup_line.specs.declared.LineRead.{LineRead}
-use Rattle.setup_line.proofs.LineAnswers.{accepted-line}
-use Rattle.search.specs.Search.{limitsOf}
-use Rattle.session.specs.Session.{freshOf, opening}
-use Rattle.session.specs.declared.Opened.{Opened}
-use Rattle.session.proofs.Opening.{opened}
-use Rattle.admission.proofs.FreshSessions.{fresh-sound}
-use Rattle.stim_bench.specs.Bench.{HasLeft}
+use Rattle.stim_bench.proofs.LineLaws.{line-answer, line-opens}
 use Rattle.stim_bench.proofs.run.Statement.{statement}
 use Rattle.stim_bench.proofs.run.Tie as tie
-
--- the session that an accepted line opens has a session's bytes left
-fresh-left :
-    (l : List ℕ) (r : LineRead) (o : Opened) → r ≡ lineRead l → r .answer ≡ Accepted → o ≡ opening (r .setup)
-    → HasLeft (o .session) (limitsOf (o .session .setup) .session)
-unfolding freshOf
-fresh-left l r o p q e =
-    let u = r .setup in
-    let a : lineRead l .answer ≡ Accepted = ap (λ (x : LineRead). x .answer) (sym p) ∙ q in
-    let ok : rulingOn u ≡ Accepted = ap (λ (x : LineRead). rulingOn (x .setup)) p ∙ accepted-line l a .1 in
-    let f : o ≡ record { answer = Accepted; session = freshOf u } = e ∙ opened u ok in
-    subst (λ (x : Opened). HasLeft (x .session) (limitsOf (x .session .setup) .session)) (sym f) (record { sound = fresh-sound u ok; room = omega arith })
 
 read-first-bytes-requires : tie.Need-read-first-bytes-requires
 read-first-bytes-requires c κs = search needs
@@ -75,8 +52,17 @@ read-line-requires c κs = search needs
 enum-known-answer : tie.Need-enum-known-answer
 enum-known-answer c = search needs
 
-print-refusal-requires : tie.Need-print-refusal-requires
-print-refusal-requires c κs = search needs
+slice-reshare-prefix-refuse-line : tie.Need-slice-reshare-prefix-refuse-line
+slice-reshare-prefix-refuse-line c = search needs
+
+slice-aggregate-refuse-line : tie.Need-slice-aggregate-refuse-line
+slice-aggregate-refuse-line c = sym (filled-long (c .before .before .before .before .before .before .before .before))
+
+refuse-line-requires : tie.Need-refuse-line-requires
+refuse-line-requires c κs =
+    let f = c .before .before .before .before .before .before .before .before .before .before .before .before .read-first-bytes in
+    let e = c .before .before .before .before .before .before .before .line-end in
+    line-answer (f .last .0) (f .result .filled) (e .result) (e .ensures .0) (line-within (c .before .before .before .before .before .before .before)) (c .before .before .before .before .before .read-line .ensures) (c .before .before .answer .given .1)
 
 same-length-2 : tie.Need-same-length-2
 same-length-2 c = search needs
@@ -101,11 +87,12 @@ least-requires c κs = search needs
 
 receive-requires : tie.Need-receive-requires
 receive-requires c κs =
-    let f = c .before .before .before .before .before .before .before .before .before .before .before .before .before .before .before .before .before .before .read-first-bytes .ensures in
+    let f = c .before .before .before .before .before .before .before .before .before .before .before .before .before .before .before .before .before .before .read-first-bytes in
     let p = c .before .before .before .before .before .before .before .before .before .before .before .before .before .before .before .before .before .before .before .before .before .before .pre in
-    let r = c .before .before .before .before .before .before .before .before .before .before .before .read-line in (
-      (omega (arith, c .least .ensures), omega (arith, f), omega (arith, f, c .before .before .before .before .before .before .before .before .before .before .before .before .before .before .before .before .before .input .given, p), omega (arith, p)),
-      fresh-left _ (r .result) (c .before .before .before .before .«open» .result) (r .ensures) (c .before .before .before .before .before .before .before .before .enum-told2 .given .1) (c .before .before .before .before .«open» .ensures),
+    let e = c .before .before .before .before .before .before .before .before .before .before .before .before .before .line-end in (
+      (omega (arith, c .least .ensures), f .ensures, omega (arith, f .ensures, c .before .before .before .before .before .before .before .before .before .before .before .before .before .before .before .before .before .input .given, p), omega (arith, p)),
+      line-opens (f .last .0) (f .result .filled) (e .result) (e .ensures .0) (line-within (c .before .before .before .before .before .before .before .before .before .before .before .before .before)) (c .before .before .before .before .before .before .before .before .before .before .before .read-line .ensures) (f .ensures)
+          (c .before .before .before .before .before .before .before .before .enum-told2 .given .1) (c .before .before .before .before .«open» .ensures) (c .least .ensures),
     )
 
 same-length-3 : tie.Need-same-length-3
@@ -138,7 +125,9 @@ run-spec =
     slice-aggregate-read-line
     read-line-requires
     enum-known-answer
-    print-refusal-requires
+    slice-reshare-prefix-refuse-line
+    slice-aggregate-refuse-line
+    refuse-line-requires
     same-length-2
     returns-2
     enum-told-2
