@@ -4,6 +4,7 @@ pub mod LoopInvariant
 pub mod LongestLines
 pub mod HeldFirst
 pub mod Batches
+pub mod BatchAnswers
 pub mod OneByOne
 pub mod WholePieces
 pub mod LinesInTurn

@@ -18,6 +18,7 @@ use Rattle.scan.proofs.RunLaws.{run-append}
 use Rattle.admission.specs.Admission.{isSound, pieceRuling}
 use Rattle.admission.proofs.Soundness.{sound-facts}
 use Rattle.admission.proofs.PieceRulings.{admitted}
+use Rattle.admission.proofs.TenLaws.{ten-sound}
 use Rattle.session.specs.Session.{freshOf, opening}
 use Rattle.session.specs.declared.Session.{Session}
 use Rattle.session.specs.declared.Opened.{Opened}
@@ -179,7 +180,7 @@ module _ (u : Setup) (ok : rulingOn u ≡ Accepted) where
 
   fresh-sound : Sound (opening u .session)
   unfolding freshOf
-  fresh-sound = record { sound = demand2 u ok .opened; long = ap (λ (s : Session). length (s .held)) fresh }
+  fresh-sound = record { sound = ten-sound (opening u .session) (demand2 u ok .opened); long = ap (λ (s : Session). length (s .held)) fresh }
 
   pub lines-in-turn : LinesInTurn u
   unfolding freshOf

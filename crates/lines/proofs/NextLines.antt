@@ -1,5 +1,6 @@
 -- The line of the next datagram: 13 doesn't refuse it, and it is at most 307 bytes long. Assumes nothing.
 use Prim.Native.Nat.{ℕ, suc, _-_, _/_, _%_, _^_, _≤_, _<_}
+use mathlib.Core.Option.{none, some}
 use mathlib.Core.Path.{_≡_, refl, sym, ap, subst}
 use mathlib.Core.Bool.{Bool, true, false, cond, _&&_, _||_}
 use mathlib.Core.List.{List, [], _∷_, _++_}
@@ -19,7 +20,6 @@ use Rattle.wire.specs.Fields.{Contents, fieldsOf}
 use Rattle.wire.proofs.FieldRanges.{Fitting, fields-fit}
 use Rattle.gaps.specs.Gaps.{datagrams, gapWith, stepAt, elapsed, missedAfter, missedAt, gapAt}
 use Rattle.gaps.specs.declared.Gap.{Gap}
-use Rattle.gaps.specs.declared.Gap.the-variants.{Missed, OffStep}
 use Rattle.gaps.proofs.Gaps.{elapsed-range}
 use Rattle.motion.specs.Totals.{groupsKept, axisAt, totalsOf}
 use Rattle.motion.specs.declared.Axes.{Axes}

@@ -98,7 +98,7 @@ part-to p at k end e =
 module _ (s : Session) (p b : List ℕ) (F : Feedable s (length p)) (few : length p ≤ limitsOf (s .setup) .piece) (room : enough ≤ length b) where
   answered : batchOf s p (length b) ≡ record { answer = Lines (length (linesIn s p)); session = fedWith s p }
   unfolding fedWith
-  answered = all-lines s p b (record { admitted = admits s (length p) (record { sound = F .sound; piece = few; session = F .room }); enough = room })
+  answered = all-lines s p b (record { admitted = admits s (length p) (record { sound = F .sound; piece = few; session = F .room }); enough = omega arith })
 
   -- its lines are in the buffer
   pub part-written : batchBuffer s p b ≡ withText (linesIn s p) b

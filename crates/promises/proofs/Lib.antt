@@ -1,0 +1,4 @@
+-- The proof of what is promised.
+pub mod Demand1
+pub mod BuildingBlocks
+pub mod Promised

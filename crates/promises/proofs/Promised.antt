@@ -1,0 +1,19 @@
+-- The one term of all that is promised. Assumes nothing.
+use mathlib.Core.Option.{none}
+use mathlib.Core.Path.{_≡_}
+use Rattle.setup.specs.Setup.{setupNumber}
+use Rattle.setup.specs.declared.Setup.{Setup}
+use Rattle.setup.proofs.Rules.{number-accepted}
+use Rattle.feeding.proofs.Demands.{demand2, demand3, every-call}
+use Rattle.lines.proofs.LinesInTurn.{lines-in-turn}
+use Rattle.promises.specs.Promised.{OfSetup, Promised}
+use Rattle.promises.proofs.Demand1.{demand1}
+use Rattle.promises.proofs.BuildingBlocks.{building-blocks}
+
+of-setup : (u : Setup) → setupNumber u ≡ none → OfSetup u
+of-setup u e =
+    let ok = number-accepted u e in
+    record { demand2 = demand2 u ok; demand3 = demand3 u ok; lines = lines-in-turn u ok }
+
+pub promised : Promised
+promised = record { demand1 = demand1; every-call = every-call; each-setup = of-setup; blocks = building-blocks }

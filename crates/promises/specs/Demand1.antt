@@ -1,0 +1,102 @@
+-- Demand 1 (00-mission): of each call that 01 names, what comes back of the memory lent to it, and which numbers can come out.
+-- Received bytes are lent as `&[u8]`, which no function can write; that every call ends, and judges its own input, is the language's: no public
+-- function has a `requires`.
+use Prim.Native.Nat.{ℕ, _≤_}
+use mathlib.Core.List.{List, _++_}
+use mathlib.Core.Logic.{_⊎_}
+use mathlib.Core.Option.{none, some}
+use mathlib.Core.Path.{_≡_}
+use lib.IntN.{ℤ}
+use lib.ListN.{length, drop}
+use Rattle.setup.specs.Setup.{firstNumber, rulingNumber, setupNumber, rulingOn, zeroSetup}
+use Rattle.setup.specs.declared.Setup.{Setup}
+use Rattle.setup_line.specs.SetupLine as line
+use Rattle.gaps.specs.declared.Gap.{Gap}
+use Rattle.motion.specs.declared.Totals.{Totals}
+use Rattle.text_line.specs.ShownLine.{writtenNumber, writtenBytes}
+use Rattle.text.specs.TextLine.{lineText, lineRules, lineAnswer, lineBuffer}
+use Rattle.session.specs.Session.{freshOf, opening}
+use Rattle.session.specs.declared.Session.{Session}
+use Rattle.admission.specs.Admission.{pieceNumber}
+use Rattle.feeding.specs.Feed.{answerNumber, refusal, feedOf}
+use Rattle.lines.specs.Lines.{receivedNumber, receivedBytes, linesIn, batchRules, batchOf, batchBuffer}
+
+-- a number from the one to the other
+abbrev pub Between : ℕ → ℕ → ℕ → Type 0
+Between low high n = (low ≤ n) × (n ≤ high)
+
+-- reading a setup line, `setup_line::read_line`
+pub record LineRead (l : List ℕ) : Type 0 where
+  -- the first of 1 to 9 that applies refuses it
+  pub number : rulingNumber (line.lineRead l .answer) ≡ firstNumber (line.lineRules l)
+  pub numbers : {n : ℕ} → rulingNumber (line.lineRead l .answer) ≡ some n → Between 1 9 n
+  -- a refused line gives back a setup of zeros, an accepted one the values that it writes, which are accepted as values too
+  pub refused : {n : ℕ} → rulingNumber (line.lineRead l .answer) ≡ some n → line.lineRead l .setup ≡ zeroSetup
+  pub accepted :
+      rulingNumber (line.lineRead l .answer) ≡ none → (line.lineRead l .setup ≡ line.setupWritten l) × (setupNumber (line.lineRead l .setup) ≡ none)
+
+-- a setup given as values, `setup::judge`
+pub record SetupJudged (u : Setup) : Type 0 where
+  -- the first of 4 to 9 that applies refuses it
+  pub number : rulingNumber (rulingOn u) ≡ setupNumber u
+  pub numbers : {n : ℕ} → setupNumber u ≡ some n → Between 4 9 n
+
+-- opening a session of it, `session::open`
+pub record SessionOpened (u : Setup) : Type 0 where
+  -- by the same number, with a session of zeros; or with a fresh one, that holds nothing
+  pub number : rulingNumber (opening u .answer) ≡ setupNumber u
+  pub refused : {n : ℕ} → setupNumber u ≡ some n → opening u .session ≡ freshOf zeroSetup
+  pub accepted : setupNumber u ≡ none → opening u .session ≡ freshOf u
+
+-- feeding a piece, `receiver::feed`
+pub record PieceFed (s : Session) (p : List ℕ) : Type 0 where
+  -- the first of 10 to 12 that applies refuses it; no bytes are taken then, the session comes back as given, and zeros stand in the datagram's place
+  pub number : answerNumber (feedOf s p .answer) ≡ pieceNumber s (length p)
+  pub numbers : {n : ℕ} → pieceNumber s (length p) ≡ some n → Between 10 12 n
+  pub refused : {n : ℕ} → pieceNumber s (length p) ≡ some n → feedOf s p ≡ refusal s n
+
+-- writing a text line into the lent buffer b, `text::write_line`
+pub record LineWritten
+    (b : List ℕ) (u : Setup) (ordinal counter latency : ℕ) (gap : Gap) (readings : List (List ℤ)) (statuses : List ℕ) (totals : Totals) : Type 0 where
+  -- the first of 4 to 9, 13 and 14 that applies refuses it
+  pub number :
+      writtenNumber (lineAnswer b u ordinal counter latency gap readings statuses totals)
+      ≡ firstNumber (lineRules u ordinal readings totals (lineText u ordinal counter latency gap readings statuses totals) (length b))
+  pub numbers :
+      {n : ℕ} → writtenNumber (lineAnswer b u ordinal counter latency gap readings statuses totals) ≡ some n → Between 4 9 n ⊎ Between 13 14 n
+  -- then nothing is written
+  pub refused :
+      {n : ℕ} → writtenNumber (lineAnswer b u ordinal counter latency gap readings statuses totals) ≡ some n
+      → lineBuffer b u ordinal counter latency gap readings statuses totals ≡ b
+  -- else the line stands at the front, whole, and every later byte is as it was; the number of its bytes comes back
+  pub written :
+      writtenNumber (lineAnswer b u ordinal counter latency gap readings statuses totals) ≡ none
+      → let text = lineText u ordinal counter latency gap readings statuses totals in
+      (length text ≤ length b)
+      × (writtenBytes (lineAnswer b u ordinal counter latency gap readings statuses totals) ≡ length text)
+      × (lineBuffer b u ordinal counter latency gap readings statuses totals ≡ text ++ drop (length text) b)
+
+-- feeding a piece to its end with its lines into the lent buffer b, `lines::receive_lines`
+pub record PieceReceived (s : Session) (p b : List ℕ) : Type 0 where
+  -- the first of 10 to 12 and 14 that applies refuses it
+  pub number : receivedNumber (batchOf s p (length b) .answer) ≡ firstNumber (batchRules s p (length b))
+  pub numbers : {n : ℕ} → receivedNumber (batchOf s p (length b) .answer) ≡ some n → Between 10 12 n ⊎ (n ≡ 14)
+  -- then the session comes back as given and nothing is written
+  pub refused :
+      {n : ℕ} → receivedNumber (batchOf s p (length b) .answer) ≡ some n → (batchOf s p (length b) .session ≡ s) × (batchBuffer s p b ≡ b)
+  -- else the lines stand at the front, whole, and every later byte is as it was; the number of their bytes comes back
+  pub written :
+      receivedNumber (batchOf s p (length b) .answer) ≡ none
+      → (length (linesIn s p) ≤ length b)
+      × (receivedBytes (batchOf s p (length b) .answer) ≡ length (linesIn s p))
+      × (batchBuffer s p b ≡ linesIn s p ++ drop (length (linesIn s p)) b)
+
+pub record Demand1 : Type 0 where
+  pub line-read : (l : List ℕ) → LineRead l
+  pub setup-judged : (u : Setup) → SetupJudged u
+  pub session-opened : (u : Setup) → SessionOpened u
+  pub piece-fed : (s : Session) (p : List ℕ) → PieceFed s p
+  pub line-written :
+      (b : List ℕ) (u : Setup) (ordinal counter latency : ℕ) (gap : Gap) (readings : List (List ℤ)) (statuses : List ℕ) (totals : Totals)
+      → LineWritten b u ordinal counter latency gap readings statuses totals
+  pub piece-received : (s : Session) (p b : List ℕ) → PieceReceived s p b

@@ -1,0 +1,4 @@
+-- What is promised of the receiver.
+pub mod Demand1
+pub mod BuildingBlocks
+pub mod Promised

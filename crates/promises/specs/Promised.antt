@@ -1,0 +1,27 @@
+-- All that is promised of the receiver, in one type, and nothing above it: `Promised`. Its one term is `promised`, in proofs/Promised.antt.
+-- The rules that it speaks of are 01's, each in the `specs/` of its crate; the equation of each public call, in its contract, ties the code to them.
+use mathlib.Core.Option.{none}
+use mathlib.Core.Path.{_≡_}
+use Rattle.setup.specs.Setup.{setupNumber}
+use Rattle.setup.specs.declared.Setup.{Setup}
+use Rattle.feeding.specs.Promises.{EveryCall, Demand2, Demand3}
+use Rattle.lines.specs.InTurn.{LinesInTurn}
+use Rattle.promises.specs.Demand1.{Demand1}
+use Rattle.promises.specs.BuildingBlocks.{BuildingBlocks}
+
+-- of a setup: the datagrams of every stream (demand 2), the totals (demand 3), and the lines of pieces received in turn, which are those of the
+-- datagrams of demand 3
+pub record OfSetup (u : Setup) : Type 0 where
+  pub demand2 : Demand2 u
+  pub demand3 : Demand3 u
+  pub lines : LinesInTurn u
+
+pub record Promised : Type 0 where
+  -- lent memory, and the numbers of refusals
+  pub demand1 : Demand1
+  -- one call of feeding, on every session
+  pub every-call : EveryCall
+  -- every list of pieces, of every setup that is not refused
+  pub each-setup : (u : Setup) → setupNumber u ≡ none → OfSetup u
+  -- the enums that the calls below these answer
+  pub blocks : BuildingBlocks

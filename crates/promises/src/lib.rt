@@ -1,0 +1,1 @@
+// What is promised of the receiver, as one type: no code (specs/Promised.antt).
