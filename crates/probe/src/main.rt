@@ -13,18 +13,21 @@
 mod given;
 mod shown;
 
-use gaps::Datagrams;
 use given::SESSION_SIZE;
-use given::byte_at;
+use given::counter_of;
+use given::fill_of;
 use given::gap_of;
 use given::grid_of;
+use given::latency_of;
+use given::lines_fill_of;
+use given::lines_room_of;
+use given::ordinal_of;
+use given::room_of;
 use given::session_of;
 use given::setup_of;
+use given::size_of;
 use given::statuses_of;
 use given::totals_of;
-use given::u16_at;
-use given::u32_at;
-use given::u64_at;
 use libc::STDIN_FILENO;
 use lines::Batch;
 use lines::Received;
@@ -73,6 +76,7 @@ fn feed_record(s: &[u8]) {
 
 fn write_given(buffer: &mut [u8], s: &[u8]) -> Written {
     let setup = setup_of(s);
+    let ordinal = ordinal_of(s);
     let gap = gap_of(s);
     let grid = grid_of(s);
     let statuses = statuses_of(s);
@@ -80,9 +84,9 @@ fn write_given(buffer: &mut [u8], s: &[u8]) -> Written {
     text::write_line(
         buffer,
         setup,
-        Datagrams(u64_at(s, 17)),
-        byte_at(s, 25),
-        u16_at(s, 26),
+        ordinal,
+        counter_of(s),
+        latency_of(s),
         gap,
         grid,
         statuses,
@@ -104,8 +108,8 @@ fn put_buffer(buffer: [u8; 400], room: usize)
 
 // A text line, with all of the buffer behind the answer.
 fn line_record(s: &[u8]) {
-    let room = (u16_at(s, 157) % 401) as usize;
-    let mut buffer = filled(byte_at(s, 159));
+    let room = (room_of(s) % 401) as usize;
+    let mut buffer = filled(fill_of(s));
     let written = write_given(&mut buffer[0..room], s);
     put_text(b" line");
     put_written(written);
@@ -187,8 +191,8 @@ fn lines_record(s: &[u8]) {
     if s.len() < SESSION_SIZE + 5 {
         return;
     }
-    let room = (u32_at(s, SESSION_SIZE) % 72002) as usize;
-    let fill = byte_at(s, SESSION_SIZE + 4);
+    let room = (lines_room_of(s) % 72002) as usize;
+    let fill = lines_fill_of(s);
     let mut buffer = filled_for_lines(fill);
     let batch = lines::receive_lines(session_of(s), &s[SESSION_SIZE + 5..], &mut buffer[0..room]);
     put_text(b" lines");
@@ -222,7 +226,7 @@ fn room() -> [u8; 6144]
 fn next_record(number: u64) -> bool {
     let mut head = [0u8; 3];
     let begun = io::read_full(STDIN_FILENO, &mut head);
-    let size = u16_at(&head, 1) as usize;
+    let size = size_of(&head) as usize;
     let mut payload = room();
     if begun < 3 {
         return false;

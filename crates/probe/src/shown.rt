@@ -1,4 +1,5 @@
 // The answers as text on standard output. Each word is written by itself, behind a space: numbers in decimal, bytes in hexadecimal.
+// These functions give nothing back, and no contract can speak of what is written; that each is safe and ends is proved.
 use doubles::GroupValues;
 use doubles::TotalDoubles;
 use doubles::Values;

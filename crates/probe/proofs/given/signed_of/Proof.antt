@@ -1,13 +1,9 @@
--- `probe::given::signed_of` is safe: no difference leaves its type. Assumes nothing.
-use mathlib.Core.Path.{_≡_}
+-- `probe::given::signed_of` meets its contract. Assumes nothing.
 use Prim.Native.Nat.{_-_}
+use mathlib.Core.Path.{refl}
 use native.Mathlib.Omega.{arith}
-use lib.IntN.{pos, negsuc, _-ℤ_}
 use mir.Syntax.{w64}
-use mir.Val.{toZ}
-use mir.ValLaws.{toZ-pos}
-use Rattle.integers.proofs.Parts.{sub-parts, parts-apart}
-use Rattle.integers.proofs.Signed.{sfits-of-parts}
+use Rattle.probe.proofs.Reading.{lower-half, upper-fits, upper-half}
 use borrow.Author.Needs.{needs}
 use Rattle.probe.proofs.given.signed_of.Statement.{statement}
 use Rattle.probe.proofs.given.signed_of.Tie as tie
@@ -16,7 +12,7 @@ cast-result : tie.Need-cast-result
 cast-result c = search needs
 
 returns : tie.Need-returns
-returns c = search needs
+returns c = lower-half w64 64 (c .before .args .n) refl (omega arith)
 
 sub-result : tie.Need-sub-result
 sub-result c = search needs
@@ -25,13 +21,10 @@ cast-result-2 : tie.Need-cast-result-2
 cast-result-2 c = search needs
 
 sub-result-2 : tie.Need-sub-result-2
-sub-result-2 c =
-    let m = 18446744073709551615 - c .before .args .n in
-    let e : toZ w64 m ≡ pos m = toZ-pos w64 m (omega arith) in
-    rw e (sfits-of-parts w64 (negsuc 0 -ℤ pos m) (omega (arith, sub-parts (negsuc 0) (pos m), parts-apart (negsuc 0 -ℤ pos m))) (omega (arith, sub-parts (negsuc 0) (pos m), parts-apart (negsuc 0 -ℤ pos m))))
+sub-result-2 c = upper-fits w64 64 (c .before .args .n) refl (18446744073709551615 - c .before .args .n) (omega arith) (omega arith)
 
 returns-2 : tie.Need-returns-2
-returns-2 c = search needs
+returns-2 c = upper-half w64 64 (c .before .args .n) refl (18446744073709551615 - c .before .args .n) (omega arith) (omega arith)
 
 pub signed-of-spec : {M : Type 1} → statement M
 signed-of-spec =

@@ -1,0 +1,2 @@
+-- Laws of reading records.
+pub mod Reading
