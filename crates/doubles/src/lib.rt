@@ -120,7 +120,7 @@ fn total_double(axis: Axis, shift: u16) -> f64
 {
     let total = axis.total;
     let k = known_shift(shift);
-    if integers::is_within(total, motion::GREATEST_TOTAL) {
+    if motion::fits_total(total) {
         return steps_double(total, k);
     }
     0.0

@@ -3,16 +3,17 @@ ghost use mathlib.Core.Path.{_≡_};
 ghost use Prim.Native.Nat.{_≤_, _^_};
 ghost use lib.Dec.{eqb};
 ghost use lib.IntN.{pos, natAbs, _+ℤ_};
+ghost use Rattle.integers.specs.Ranges.{within};
 ghost use Rattle.setup.specs.Setup.{unitNumber};
 ghost use Rattle.motion.specs.Status.{fitAxes, flagged};
-ghost use Rattle.motion.specs.Totals.{difference, fitStep, keptStep, noAxes, keptBy, groupStep, stepped};
+ghost use Rattle.motion.specs.Totals.{greatestTotal, difference, fitStep, keptStep, noAxes, keptBy, groupStep, stepped};
 ghost use Rattle.motion.specs.Totals.{totalOf, groupTotals, totalsOf};
 use setup::Row;
 use setup::Unit;
 use setup::Units;
 
-// The greatest size of a total, 2^53: up to it every total is a double.
-pub const GREATEST_TOTAL: u64 = 9007199254740992;
+// The greatest size of a total, 2^53: up to it every total is a double (01, Totals).
+const GREATEST_TOTAL: u64 = 9007199254740992;
 
 // What is kept of an axis: whether a fit datagram came, the last fit reading and the total.
 pub struct Axis {
@@ -121,6 +122,13 @@ pub fn no_axes() -> Axes
     }
 }
 
+// Whether a total is at most 2^53 in size (01, Totals).
+pub fn fits_total(steps: i64) -> bool
+    ensures { λ r. ⌜ r ≡ within greatestTotal steps ⌝ }
+{
+    integers::is_within(steps, GREATEST_TOTAL)
+}
+
 // x + 2^31, which is not negative.
 fn lifted(x: i32) -> u64
     ensures { λ r. ⌜ pos r ≡ x +ℤ pos 2147483648 ⌝ }
@@ -169,7 +177,7 @@ fn kept_step(kept: bool, axis: Axis, fit: bool, reading: i32) -> Axis
     ensures { λ r. ⌜ r ≡ keptStep kept axis (record { fit = fit; reading = reading }) ⌝ }
 {
     let total = axis.total;
-    let counts = kept & integers::is_within(total, GREATEST_TOTAL);
+    let counts = kept & fits_total(total);
     if !(counts & fit) {
         return axis;
     }

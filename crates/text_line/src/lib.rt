@@ -280,7 +280,7 @@ fn readings_fit(readings: [[i32; 3]; 3]) -> bool
 fn total_within(total: Total) -> bool
     ensures { λ r. ⌜ r ≡ totalWithin total ⌝ }
 {
-    integers::is_within(total.steps, 9007199254740992)
+    motion::fits_total(total.steps)
 }
 
 fn group_within(totals: GroupTotals) -> bool

@@ -18,14 +18,14 @@ use Rattle.doubles.proofs.total_double.Tie as tie
 fits : (c : tie.After-struct-told) → SFits w64 (c .before .args .axis .total)
 fits c = record { sfits = omega arith }
 
-told : (c : tie.After-is-within) → c .is-within .result ≡ within (2 ^ 53) (c .before .before .before .args .axis .total)
-told c = passed w64 (within (2 ^ 53)) (c .before .before .before .args .axis .total) (fits (c .before .before)) (c .is-within .ensures)
+told : (c : tie.After-fits-total) → c .fits-total .result ≡ within (2 ^ 53) (c .before .before .before .args .axis .total)
+told c = passed w64 (within (2 ^ 53)) (c .before .before .before .args .axis .total) (fits (c .before .before)) (c .fits-total .ensures)
 
 known-shift-requires : tie.Need-known-shift-requires
 known-shift-requires c κs = search needs
 
-is-within-requires : tie.Need-is-within-requires
-is-within-requires c κs = search needs
+fits-total-requires : tie.Need-fits-total-requires
+fits-total-requires c κs = search needs
 
 steps-double-requires : tie.Need-steps-double-requires
 steps-double-requires c κs =
@@ -54,4 +54,4 @@ returns-2 c = rw (← told (c .before), c .if1 .left)
 pub total-double-spec : {M : Type 1} → statement M
 total-double-spec =
     tie.close
-    (tie.spec known-shift-requires is-within-requires steps-double-requires returns returns-2)
+    (tie.spec known-shift-requires fits-total-requires steps-double-requires returns returns-2)

@@ -15,11 +15,11 @@ use Rattle.motion.specs.Totals.{fitStep, axisStep, keptStep}
 use Rattle.motion.proofs.kept_step.Statement.{statement}
 use Rattle.motion.proofs.kept_step.Tie as tie
 
-told : (c : tie.After-is-within) → c .is-within .result ≡ within (2 ^ 53) (c .before .before .args .axis .total)
+told : (c : tie.After-fits-total) → c .fits-total .result ≡ within (2 ^ 53) (c .before .before .args .axis .total)
 told c =
     let z = c .before .before .args .axis .total in
     let f : SFits w64 z = record { sfits = omega arith } in
-    passed w64 (within (2 ^ 53)) z f (c .is-within .ensures)
+    passed w64 (within (2 ^ 53)) z f (c .fits-total .ensures)
 
 -- what the test tells where the axis stays as it is, and where it moves
 stays-here : (c : tie.Then1) →
@@ -42,8 +42,8 @@ moves true true a b e = refl
 moves true false a b e = let z : _≡_ {A = ℕ} 0 1 = cc in absurd (omega arith)
 moves false fit a b e = let z : _≡_ {A = ℕ} 0 1 = cc in absurd (omega arith)
 
-is-within-requires : tie.Need-is-within-requires
-is-within-requires c κs = search needs
+fits-total-requires : tie.Need-fits-total-requires
+fits-total-requires c κs = search needs
 
 returns : tie.Need-returns
 unfolding keptStep axisStep
@@ -65,4 +65,4 @@ returns-2 c =
     ∙ sym (moves (s .args .kept && within (2 ^ 53) (s .args .axis .total)) (s .args .fit) _ _ (moves-here (c .before)))
 
 pub kept-step-spec : {M : Type 1} → statement M
-kept-step-spec = tie.close (tie.spec is-within-requires returns fit-step-requires returns-2)
+kept-step-spec = tie.close (tie.spec fits-total-requires returns fit-step-requires returns-2)

@@ -7,11 +7,11 @@ use Rattle.integers.proofs.Signed.{passed}
 use Rattle.text_line.proofs.total_within.Statement.{statement}
 use Rattle.text_line.proofs.total_within.Tie as tie
 
-is-within-requires : tie.Need-is-within-requires
-is-within-requires c κs = search needs
+fits-total-requires : tie.Need-fits-total-requires
+fits-total-requires c κs = search needs
 
 returns : tie.Need-returns
-returns c = passed w64 (within (2 ^ 53)) (c .before .before .args .total .steps) (record { sfits = omega (arith, c .before .struct-told .given) }) (c .is-within .ensures)
+returns c = passed w64 (within (2 ^ 53)) (c .before .before .args .total .steps) (record { sfits = omega (arith, c .before .struct-told .given) }) (c .fits-total .ensures)
 
 pub total-within-spec : {M : Type 1} → statement M
-total-within-spec = tie.close (tie.spec is-within-requires returns)
+total-within-spec = tie.close (tie.spec fits-total-requires returns)
