@@ -3,6 +3,7 @@
 use mathlib.Core.Path.{_≡_, refl, sym, ap, _∙_}
 use mathlib.Core.Bool.{true, false}
 use mathlib.Core.List.{List, _∷_, _++_}
+use mathlib.Core.Option.{none, some}
 use mathlib.Core.Logic.{_⊎_, inl, inr, ⊎-elim}
 use Prim.Native.Nat.{ℕ, _^_, _≤_, _<_}
 use native.Mathlib.Omega.{arith}
@@ -19,9 +20,8 @@ use Rattle.setup.proofs.Refusals.{judge-numbers}
 use Rattle.setup.proofs.Rules.{none-applies, first-accepted, first-refused}
 use Rattle.gaps.specs.declared.Gap.{Gap}
 use Rattle.motion.specs.declared.Totals.{Totals}
-use Rattle.text_line.specs.ShownLine.{readingsFit, totalsWithin, outside, roomRules, shownRules, longestLine}
+use Rattle.text_line.specs.ShownLine.{readingsFit, totalsWithin, outside, roomRules, shownRules, writtenNumber, writtenBytes, longestLine}
 use Rattle.text_line.specs.declared.Written.{Written}
-use Rattle.text_line.specs.declared.Written.the-variants.{Line, Refused}
 use Rattle.text_line.proofs.Answers.{inside}
 use Rattle.text_line.proofs.Longest.{MissedFits, shown-longest}
 use Rattle.text_line.proofs.ShownLaws.{refused-by, written-by, last-fourteen, last-numbers, shown-enough, shown-short}
@@ -68,59 +68,61 @@ module _ (b : List ℕ) (setup : Setup) (ordinal counter latency : ℕ) (gap : G
   rules = rule 13 (outside ordinal readings totals) ∷ roomRules text (length b)
 
   -- which list of rules refuses it, where one does
-  refused-of : {n : ℕ} → answer ≡ Refused n → (rulingOn setup ≡ ruling.the-variants.Refused n) ⊎ (firstOf rules ≡ ruling.the-variants.Refused n)
+  refused-of : {n : ℕ} → writtenNumber answer ≡ some n → (rulingOn setup ≡ ruling.the-variants.Refused n) ⊎ (firstOf rules ≡ ruling.the-variants.Refused n)
   unfolding lineAnswer lineRuling lineRules shownRules rulingOn
   refused-of e = refused-split (setupRules setup) rules (refused-by ruling-line text e)
 
-  written-of : {n : ℕ} → answer ≡ Line n → (firstOf (setupRules setup ++ rules) ≡ ruling.the-variants.Accepted) × (n ≡ length text)
+  written-of : writtenNumber answer ≡ none → (firstOf (setupRules setup ++ rules) ≡ ruling.the-variants.Accepted) × (writtenBytes answer ≡ length text)
   unfolding lineAnswer lineRuling lineRules shownRules
   written-of e = written-by ruling-line text e
 
   -- a line is refused by 4 to 9, 13 and 14 only
-  pub answer-numbers : {n : ℕ} → answer ≡ Refused n → LineNumber n
+  pub answer-numbers : {n : ℕ} → writtenNumber answer ≡ some n → LineNumber n
   answer-numbers e =
       ⊎-elim (λ s. inl (judge-numbers setup s)) (λ l. inr (last-numbers (outside ordinal readings totals) (ltb (length b) (length text)) l)) (refused-of e)
 
   -- a refusal writes nothing
-  pub refused-keeps : {n : ℕ} → answer ≡ Refused n → buffer ≡ b
+  pub refused-keeps : {n : ℕ} → writtenNumber answer ≡ some n → buffer ≡ b
   unfolding lineAnswer lineBuffer
   refused-keeps e = rw (refused-by ruling-line text e)
 
-  -- a written line tells its length, and alters only its own bytes, from the front
-  pub written-tells : {n : ℕ} → answer ≡ Line n → n ≡ length text
-  written-tells e = written-of e .1
-
-  pub written-front : {n : ℕ} → answer ≡ Line n → buffer ≡ text ++ drop n b
-  unfolding lineAnswer lineBuffer
-  written-front e = let w = written-by ruling-line text e in rw (w .0, w .1)
-
-  pub written-line : {n : ℕ} → answer ≡ Line n → take n buffer ≡ text
-  written-line {n} e = ap (take n) (written-front e) ∙ take-at text (drop n b) n (sym (written-tells e))
-
-  pub written-rest : {n : ℕ} → answer ≡ Line n → drop n buffer ≡ drop n b
-  written-rest {n} e = ap (drop n) (written-front e) ∙ drop-at text (drop n b) n (sym (written-tells e))
-
   -- what is written has been accepted, and has room
-  pub written-fits : {n : ℕ} → answer ≡ Line n → (rulingOn setup ≡ ruling.the-variants.Accepted) × (outside ordinal readings totals ≡ false) × (length text ≤ length b)
+  pub written-fits : writtenNumber answer ≡ none → (rulingOn setup ≡ ruling.the-variants.Accepted) × (outside ordinal readings totals ≡ false) × (length text ≤ length b)
   unfolding rulingOn
   written-fits e =
       let a = accepted-split (setupRules setup) rules (written-of e .0) in
       let l = none-applies rules (a .1) in
       (a .0, l .0, ltb-false (length b) (length text) (l .1 .0))
 
+  -- a written line tells its length, at most the buffer's, and alters only its own bytes, from the front
+  pub written-tells : writtenNumber answer ≡ none → (writtenBytes answer ≡ length text) × (writtenBytes answer ≤ length b)
+  written-tells e = (written-of e .1, omega (arith, written-of e .1, written-fits e .2))
+
+  pub written-front : writtenNumber answer ≡ none → buffer ≡ text ++ drop (writtenBytes answer) b
+  unfolding lineAnswer lineBuffer
+  written-front e = rw (written-by ruling-line text e .0)
+
+  pub written-line : writtenNumber answer ≡ none → take (writtenBytes answer) buffer ≡ text
+  written-line e = ap (take (writtenBytes answer)) (written-front e) ∙ take-at text (drop (writtenBytes answer) b) (writtenBytes answer) (sym (written-of e .1))
+
+  pub written-rest : writtenNumber answer ≡ none → drop (writtenBytes answer) buffer ≡ drop (writtenBytes answer) b
+  written-rest e = ap (drop (writtenBytes answer)) (written-front e) ∙ drop-at text (drop (writtenBytes answer) b) (writtenBytes answer) (sym (written-of e .1))
+
   -- a buffer as long as the line is enough, and one that is shorter isn't
   module _ (a : rulingOn setup ≡ ruling.the-variants.Accepted) (h : outside ordinal readings totals ≡ false) where
-    pub enough-room : length text ≤ length b → answer ≡ Line (length text)
+    pub enough-room : length text ≤ length b → writtenNumber answer ≡ none
     unfolding lineText
     enough-room l =
-        sym (accepted-answer b setup ordinal counter latency gap readings statuses totals a)
-        ∙ shown-enough b (shownBy setup) ordinal counter latency gap readings statuses totals h l
+        ap writtenNumber
+        (sym (accepted-answer b setup ordinal counter latency gap readings statuses totals a)
+        ∙ shown-enough b (shownBy setup) ordinal counter latency gap readings statuses totals h l)
 
-    pub too-short : length b < length text → answer ≡ Refused 14
+    pub too-short : length b < length text → writtenNumber answer ≡ some 14
     unfolding lineText
     too-short l =
-        sym (accepted-answer b setup ordinal counter latency gap readings statuses totals a)
-        ∙ shown-short b (shownBy setup) ordinal counter latency gap readings statuses totals h l
+        ap writtenNumber
+        (sym (accepted-answer b setup ordinal counter latency gap readings statuses totals a)
+        ∙ shown-short b (shownBy setup) ordinal counter latency gap readings statuses totals h l)
 
   -- no line is longer than `longestLine`
   pub longest :
@@ -130,7 +132,7 @@ module _ (b : List ℕ) (setup : Setup) (ordinal counter latency : ℕ) (gap : G
   longest = shown-longest (shownBy setup) ordinal counter latency gap readings statuses totals
 
   -- so a buffer of that many bytes is never too short
-  pub never-short : ordinal < 2 ^ 64 → counter < 256 → latency < 65536 → MissedFits gap → ((i : ℕ) → getD statuses i 0 < 256) → longestLine ≤ length b → answer ≡ Refused 14 → ⊥
+  pub never-short : ordinal < 2 ^ 64 → counter < 256 → latency < 65536 → MissedFits gap → ((i : ℕ) → getD statuses i 0 < 256) → longestLine ≤ length b → writtenNumber answer ≡ some 14 → ⊥
   never-short o c l g s room e =
       ⊎-elim (λ f. let n = judge-numbers setup f in omega arith)
       (λ f.

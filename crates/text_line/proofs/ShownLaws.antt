@@ -3,18 +3,20 @@
 use mathlib.Core.Path.{_≡_, refl, sym, ap, _∙_}
 use mathlib.Core.Bool.{Bool, true, false}
 use mathlib.Core.List.{List, [], _∷_, _++_}
+use mathlib.Core.Option.{none, some}
 use Prim.Native.Nat.{ℕ, _≤_, _<_}
 use native.Mathlib.Omega.{arith}
+use borrow.Author.Tests.{ltb-false}
 use lib.Dec.{ltb}
 use lib.IntN.{ℤ}
 use lib.ListN.{length, drop}
 use Rattle.setup.specs.Setup.{rule, firstOf}
 use Rattle.setup.specs.declared.Ruling as ruling
 use Rattle.setup.specs.declared.Ruling.{Ruling}
-use Rattle.setup.proofs.Rules.{first-within}
+use Rattle.setup.proofs.Rules.{none-applies, first-within}
 use Rattle.gaps.specs.declared.Gap.{Gap}
 use Rattle.motion.specs.declared.Totals.{Totals}
-use Rattle.text_line.specs.ShownLine.{shownText, outside, shownRules, writtenBy, shownRuling, shownAnswer, shownBuffer}
+use Rattle.text_line.specs.ShownLine.{shownText, outside, roomRules, shownRules, writtenBy, writtenNumber, writtenBytes, shownRuling, shownAnswer, shownBuffer}
 use Rattle.text_line.specs.declared.Shown.{Shown}
 use Rattle.text_line.specs.declared.Written.{Written}
 use Rattle.text_line.specs.declared.Written.the-variants.{Line, Refused}
@@ -22,12 +24,12 @@ use Rattle.text_line.proofs.Answers.{room-short, room-enough, room-left
 
 -- ---- from an answer to the ruling
 
-pub refused-by : (j : Ruling) (t : List ℕ) {n : ℕ} → writtenBy j t ≡ Refused n → j ≡ ruling.the-variants.Refused n
+pub refused-by : (j : Ruling) (t : List ℕ) {n : ℕ} → writtenNumber (writtenBy j t) ≡ some n → j ≡ ruling.the-variants.Refused n
 refused-by ruling.the-variants.Accepted t e = let z : _≡_ {A = ℕ} 0 1 = cc in absurd (omega arith)
 refused-by (ruling.the-variants.Refused m) t {n} e = let s : m ≡ n = cc in ap ruling.the-variants.Refused s
 
-pub written-by : (j : Ruling) (t : List ℕ) {n : ℕ} → writtenBy j t ≡ Line n → (j ≡ ruling.the-variants.Accepted) × (n ≡ length t)
-written-by ruling.the-variants.Accepted t {n} e = let s : n ≡ length t = cc in (refl, s)
+pub written-by : (j : Ruling) (t : List ℕ) → writtenNumber (writtenBy j t) ≡ none → (j ≡ ruling.the-variants.Accepted) × (writtenBytes (writtenBy j t) ≡ length t)
+written-by ruling.the-variants.Accepted t e = (refl, refl)
 written-by (ruling.the-variants.Refused m) t e = let z : _≡_ {A = ℕ} 0 1 = cc in absurd (omega arith)
 
 -- ---- the rules of a line
@@ -57,22 +59,25 @@ module _ (b : List ℕ) (shown : Shown) (ordinal counter latency : ℕ) (gap : G
   shown-buffer = shownBuffer b shown ordinal counter latency gap readings statuses totals
 
   -- it is refused by 13 and 14 only, and a refusal writes nothing
-  pub shown-numbers : {n : ℕ} → shown-answer ≡ Refused n → (13 ≤ n) × (n ≤ 14)
+  pub shown-numbers : {n : ℕ} → writtenNumber shown-answer ≡ some n → (13 ≤ n) × (n ≤ 14)
   unfolding shownAnswer shownRuling shownRules
   shown-numbers e = last-numbers (outside ordinal readings totals) (ltb (length b) (length shown-text)) (refused-by shown-ruling shown-text e)
 
-  pub shown-keeps : {n : ℕ} → shown-answer ≡ Refused n → shown-buffer ≡ b
+  pub shown-keeps : {n : ℕ} → writtenNumber shown-answer ≡ some n → shown-buffer ≡ b
   unfolding shownAnswer shownBuffer
   shown-keeps e = rw (refused-by shown-ruling shown-text e)
 
-  -- a written line tells its length, and alters only its own bytes, from the front
-  pub shown-tells : {n : ℕ} → shown-answer ≡ Line n → n ≡ length shown-text
-  unfolding shownAnswer
-  shown-tells e = written-by shown-ruling shown-text e .1
+  -- a written line tells its length, at most the buffer's, and alters only its own bytes, from the front
+  pub shown-tells : writtenNumber shown-answer ≡ none → (writtenBytes shown-answer ≡ length shown-text) × (writtenBytes shown-answer ≤ length b)
+  unfolding shownAnswer shownRuling shownRules
+  shown-tells e =
+      let w = written-by shown-ruling shown-text e in
+      let l = none-applies (rule 13 (outside ordinal readings totals) ∷ roomRules shown-text (length b)) (w .0) in
+      (w .1, omega (arith, w .1, ltb-false (length b) (length shown-text) (l .1 .0)))
 
-  pub shown-front : {n : ℕ} → shown-answer ≡ Line n → shown-buffer ≡ shown-text ++ drop n b
+  pub shown-front : writtenNumber shown-answer ≡ none → shown-buffer ≡ shown-text ++ drop (writtenBytes shown-answer) b
   unfolding shownAnswer shownBuffer
-  shown-front e = let w = written-by shown-ruling shown-text e in rw (w .0, w .1)
+  shown-front e = rw (written-by shown-ruling shown-text e .0)
 
   -- a buffer as long as the line is enough, and one that is shorter isn't
   module _ (h : outside ordinal readings totals ≡ false) where
@@ -86,7 +91,9 @@ module _ (b : List ℕ) (shown : Shown) (ordinal counter latency : ℕ) (gap : G
     pub shown-written :
         {r : Written} {b1 : List ℕ} → (r ≡ shown-answer) × (b1 ≡ shown-buffer) → length shown-text ≤ length b
         → (r ≡ Line (length shown-text)) × (b1 ≡ shown-text ++ drop (length shown-text) b)
-    shown-written w l = (w .0 ∙ shown-enough l, w .1 ∙ shown-front (shown-enough l))
+    shown-written w l =
+        let e = shown-enough l in
+        (w .0 ∙ e, w .1 ∙ shown-front (ap writtenNumber e) ∙ ap (λ (a : Written). shown-text ++ drop (writtenBytes a) b) e)
 
 -- an answer tells one length
 pub line-length : {r : Written} {m n : ℕ} → r ≡ Line m → r ≡ Line n → m ≡ n

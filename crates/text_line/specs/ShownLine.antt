@@ -2,6 +2,7 @@
 use Prim.Native.Nat.{ℕ}
 use mathlib.Core.Bool.{Bool, false, not, _&&_, _||_, cond}
 use mathlib.Core.List.{List, [], _∷_, _++_}
+use mathlib.Core.Option.{Option, none, some}
 use lib.Dec.{eqb, ltb}
 use lib.IntN.{ℤ, pos}
 use lib.ListN.{length, getD, drop}
@@ -114,6 +115,15 @@ shownRules ordinal readings totals text room = rule 13 (outside ordinal readings
 abbrev pub writtenBy : Ruling → List ℕ → Written
 writtenBy ruling.the-variants.Accepted text = Line (length text)
 writtenBy (ruling.the-variants.Refused number) text = Refused number
+
+-- what each case of it stands for: the number that refused the line, and how many bytes were written
+abbrev pub writtenNumber : Written → Option ℕ
+writtenNumber (Line n) = none
+writtenNumber (Refused number) = some number
+
+abbrev pub writtenBytes : Written → ℕ
+writtenBytes (Line n) = n
+writtenBytes (Refused number) = 0
 
 -- the buffer at exit: the line from the front and every later byte as it was, or all as it was
 abbrev pub bufferBy : Ruling → List ℕ → List ℕ → List ℕ
