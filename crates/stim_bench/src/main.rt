@@ -148,7 +148,7 @@ fn feed_part(session: Session, part: &[u8], output: &mut [u8]) -> PartFed
             used: count,
         },
         Received::Refused(number) => PartFed {
-            session: next,
+            session: session,
             used: 0,
         },
     }
