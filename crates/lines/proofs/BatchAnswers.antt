@@ -1,17 +1,12 @@
 -- What 01 says of the answer, the session and the lent buffer of receive_lines, by the number that comes out. Assumes nothing.
 use Prim.Native.Nat.{ℕ, _≤_}
-use mathlib.Core.Path.{_≡_, refl, ap, _∙_}
-use mathlib.Core.List.{List, [], _∷_, _++_}
-use mathlib.Core.Logic.{_⊎_, inl, inr}
+use mathlib.Core.Path.{_≡_, refl, ap}
+use mathlib.Core.List.{List, _++_}
 use mathlib.Core.Option.{Option, none, some}
-use native.Mathlib.Omega.{arith}
 use borrow.Author.Tests.{ltb-false}
-use lib.Dec.{ltb}
 use lib.ListN.{length, drop}
-use Rattle.setup.specs.Setup.{rule, firstNumber, rulingWith}
-use Rattle.setup.proofs.Rules.{number-within, no-number, number-split}
-use Rattle.text_line.specs.ShownLine.{roomRules}
-use Rattle.admission.specs.Admission.{pieceRules}
+use Rattle.setup.specs.Setup.{firstNumber, rulingWith}
+use Rattle.setup.proofs.Rules.{no-number}
 use Rattle.session.specs.declared.Session.{Session}
 use Rattle.feeding.specs.Feed.{sessionOf}
 use Rattle.lines.specs.declared.Received.the-variants.{Lines}
@@ -30,16 +25,6 @@ module _ (s : Session) (p b : List ℕ) where
       by : (o : Option ℕ) → receivedNumber (batchWith (rulingWith o) s p .answer) ≡ o
       by none = refl
       by (some n) = refl
-
-  -- 10 to 12, or 14
-  pub batch-numbers : {n : ℕ} → firstNumber (batchRules s p (length b)) ≡ some n → ((10 ≤ n) × (n ≤ 12)) ⊎ (n ≡ 14)
-  batch-numbers {n} e = by (number-split (pieceRules s (length p)) (roomRules (linesIn s p) (length b)) e)
-    where
-      by : (firstNumber (pieceRules s (length p)) ≡ some n) ⊎ (firstNumber (roomRules (linesIn s p) (length b)) ≡ some n) → ((10 ≤ n) × (n ≤ 12)) ⊎ (n ≡ 14)
-      by (inl q) = inl (number-within 10 12 (pieceRules s (length p)) (omega arith) q)
-      by (inr q) =
-          let k = number-within 14 14 (roomRules (linesIn s p) (length b)) (omega arith, omega arith, tt) q in
-          inr (omega arith)
 
   -- a refusal gives back the session as given, and writes nothing
   refused-batch : {n : ℕ} → firstNumber (batchRules s p (length b)) ≡ some n → batchOf s p (length b) ≡ refusing s n

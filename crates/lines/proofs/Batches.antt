@@ -25,7 +25,7 @@ use Rattle.feeding.specs.Feed.{stateOf, sessionOf}
 use Rattle.lines.specs.declared.Received as received
 use Rattle.lines.specs.declared.Received.the-variants.{Lines}
 use Rattle.lines.specs.declared.Batch.{Batch}
-use Rattle.lines.specs.Lines.{foundIn, linesIn, behind, refusing, bufferBy, batchWith, batchOf, batchBuffer, receivedNumber, receivedBytes}
+use Rattle.lines.specs.Lines.{foundIn, linesIn, behind, refusing, bufferBy, batchWith, batchOf, batchBuffer, receivedNumber}
 use Rattle.lines.specs.PieceParts.{textOf, batchBy, scanAt, Answered, Permitted}
 use Rattle.lines.proofs.LongestLines.{lines-fit}
 
@@ -96,15 +96,6 @@ module _ (s : Session) (p b : List ℕ) where
           inl (omega (arith, r .0), omega (arith, r .1))
       by (too-long e l) q = inr (let z : 14 ≡ n = cc in sym z)
       by (fitting e l) q = absurd (let z : _≡_ {A = ℕ} 0 1 = cc in omega arith)
-
-  -- the bytes of the lines lie in the buffer
-  pub bytes-within : receivedBytes (batchOf s p (length b) .answer) ≤ length b
-  bytes-within = by way
-    where
-      by : {x : Batch} → Way x → receivedBytes (x .answer) ≤ length b
-      by (turned-down e) = omega arith
-      by (too-long e l) = omega arith
-      by (fitting e l) = l
 
 -- ---- what was written
 

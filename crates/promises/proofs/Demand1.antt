@@ -21,7 +21,8 @@ use Rattle.feeding.specs.declared.Reply.{Reply}
 use Rattle.feeding.proofs.CallParts.{fed-refused}
 use Rattle.feeding.proofs.EachCall.{fed-number}
 use Rattle.text.proofs.LineLaws as text
-use Rattle.lines.proofs.BatchAnswers.{batch-number, batch-numbers, batch-refused, batch-written}
+use Rattle.lines.proofs.Batches.{batch-numbers}
+use Rattle.lines.proofs.BatchAnswers.{batch-number, batch-refused, batch-written}
 use Rattle.promises.specs.Demand1.{LineRead, SetupJudged, SessionOpened, PieceFed, LineWritten, PieceReceived, Demand1}
 
 line-read : (l : List ℕ) → LineRead l
@@ -59,7 +60,7 @@ piece-received : (s : Session) (p b : List ℕ) → PieceReceived s p b
 piece-received s p b =
     record {
       number = batch-number s p b;
-      numbers = λ e. batch-numbers s p b (sym (batch-number s p b) ∙ e);
+      numbers = λ e. batch-numbers s p b e;
       refused = λ e. batch-refused s p b (sym (batch-number s p b) ∙ e);
       written = λ e. batch-written s p b (sym (batch-number s p b) ∙ e);
     }

@@ -3,7 +3,7 @@
 use mathlib.Core.Path.{_≡_, refl, sym, ap, _∙_}
 use mathlib.Core.Bool.{true, false}
 use mathlib.Core.List.{List, _∷_, _++_}
-use mathlib.Core.Option.{none, some}
+use mathlib.Core.Option.{Option, none, some}
 use mathlib.Core.Logic.{_⊎_, inl, inr, ⊎-elim}
 use Prim.Native.Nat.{ℕ, _^_, _≤_, _<_}
 use native.Mathlib.Omega.{arith}
@@ -12,7 +12,7 @@ use lib.Dec.{ltb}
 use lib.IntN.{ℤ}
 use lib.ListN.{length, take, drop, getD}
 use lib.Seq.{take-at, drop-at}
-use Rattle.setup.specs.Setup.{Rule, rule, firstOf, setupRules, rulingOn}
+use Rattle.setup.specs.Setup.{Rule, rule, firstNumber, rulingWith, firstOf, setupRules, rulingOn}
 use Rattle.setup.specs.declared.Setup.{Setup}
 use Rattle.setup.specs.declared.Ruling as ruling
 use Rattle.setup.specs.declared.Ruling.{Ruling}
@@ -20,7 +20,7 @@ use Rattle.setup.proofs.Refusals.{judge-numbers}
 use Rattle.setup.proofs.Rules.{none-applies, first-accepted, first-refused}
 use Rattle.gaps.specs.declared.Gap.{Gap}
 use Rattle.motion.specs.declared.Totals.{Totals}
-use Rattle.text_line.specs.ShownLine.{readingsFit, totalsWithin, outside, roomRules, shownRules, writtenNumber, writtenBytes, longestLine}
+use Rattle.text_line.specs.ShownLine.{readingsFit, totalsWithin, outside, roomRules, shownRules, writtenBy, writtenNumber, writtenBytes, longestLine}
 use Rattle.text_line.specs.declared.Written.{Written}
 use Rattle.text_line.proofs.Answers.{inside}
 use Rattle.text_line.proofs.Longest.{MissedFits, shown-longest}
@@ -76,6 +76,15 @@ module _ (b : List ℕ) (setup : Setup) (ordinal counter latency : ℕ) (gap : G
   unfolding lineAnswer lineRuling lineRules shownRules
   written-of e = written-by ruling-line text e
 
+  -- the number is that of the first rule that applies
+  pub answer-number : writtenNumber answer ≡ firstNumber (lineRules setup ordinal readings totals text (length b))
+  unfolding lineAnswer lineRuling
+  answer-number = by (firstNumber (lineRules setup ordinal readings totals text (length b)))
+    where
+      by : (o : Option ℕ) → writtenNumber (writtenBy (rulingWith o) text) ≡ o
+      by none = refl
+      by (some n) = refl
+
   -- a line is refused by 4 to 9, 13 and 14 only
   pub answer-numbers : {n : ℕ} → writtenNumber answer ≡ some n → LineNumber n
   answer-numbers e =
@@ -101,6 +110,10 @@ module _ (b : List ℕ) (setup : Setup) (ordinal counter latency : ℕ) (gap : G
   pub written-front : writtenNumber answer ≡ none → buffer ≡ text ++ drop (writtenBytes answer) b
   unfolding lineAnswer lineBuffer
   written-front e = rw (written-by ruling-line text e .0)
+
+  pub written-whole :
+      writtenNumber answer ≡ none → (length text ≤ length b) × (writtenBytes answer ≡ length text) × (buffer ≡ text ++ drop (length text) b)
+  written-whole e = (written-fits e .2, written-of e .1, written-front e ∙ ap (λ (n : ℕ). text ++ drop n b) (written-of e .1))
 
   pub written-line : writtenNumber answer ≡ none → take (writtenBytes answer) buffer ≡ text
   written-line e = ap (take (writtenBytes answer)) (written-front e) ∙ take-at text (drop (writtenBytes answer) b) (writtenBytes answer) (sym (written-of e .1))
