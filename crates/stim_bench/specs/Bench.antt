@@ -24,10 +24,11 @@ unfoldable pub lineEnd : List ℕ → ℕ
 lineEnd [] = 0
 lineEnd (b ∷ s) = cond (eqb b 0x0A) 0 (suc (lineEnd s))
 
+-- the first line, without its 0x0A
 abbrev pub firstLine : List ℕ → List ℕ
 firstLine l = take (lineEnd l) l
 
--- the first line of the bytes l is accepted as a setup line, s is the session that it opens, and the stream begins behind its 0x0A
+-- the first line of the bytes l is an accepted setup line, s is the session that it opens, and the stream begins behind its 0x0A
 pub record Opens (l : List ℕ) (s : Session) (from : ℕ) : Type 0 where
   pub accepted : lineRead (firstLine l) .answer ≡ Accepted
   pub session : s ≡ opening (lineRead (firstLine l) .setup) .session
