@@ -53,6 +53,18 @@ short c =
     subst (λ (l : List ℕ). length l ≤ longestLine) (first-line (s .args .session) (s .args .piece .now) (length (s .args .buffer .now)) (s .pre .0) (given c))
     (first-short (s .args .session) (s .args .piece .now) (length (s .args .buffer .now)) (s .pre .0) (given c))
 
+-- the rest of the piece can go on behind so many bytes of the buffer
+ready :
+    (c : tie.After-enum-told) (used room : ℕ) → used ≤ longestLine → roomFor (length (c .before .before .before .before .before .before .before .args .piece .now)) ≤ room
+    → let s = c .before .before .before .before .before .before .before in
+    let r = c .before .before .before .feed .result in
+    Ready (r .session .setup) (startOf (r .session) (r .taken) used) (length (s .args .piece .now)) room
+ready c used room few wide =
+    let s = c .before .before .before .before .before .before .before in
+    let p = s .args .piece .now in
+    subst (λ (r : Reply). Ready (r .session .setup) (startOf (r .session) (r .taken) used) (length p) room) (sym (replied c))
+    (first-ready (s .args .session) p (length (s .args .buffer .now)) (s .pre .0) (given c) used room few wide)
+
 feed-requires : tie.Need-feed-requires
 feed-requires c κs = search needs
 
@@ -80,8 +92,7 @@ lines-of-requires c κs =
     let wide : roomFor (length p) ≤ length (f .last .1 .1 .1 .0) = omega (arith, ap length bytes, length-sets b 0 (line g), s .pre .0 .enough) in
     let same : turn (s .args .session) p (length b) (s .pre .0) (given g) .session .setup ≡ s .args .session .setup =
     first-setup (s .args .session) p (length b) (s .pre .0) (given g) in (
-      subst (λ (r : Reply). Ready (r .session .setup) (startOf (r .session) (r .taken) (f .result)) (length p) (length (f .last .1 .1 .1 .0))) (sym (replied g))
-          (first-ready (s .args .session) p (length b) (s .pre .0) (given g) (f .result) (length (f .last .1 .1 .1 .0)) few wide),
+      ready g _ (length (f .last .1 .1 .1 .0)) (omega (arith, few)) wide,
       (
         subst (λ (r : Reply). r .session .fed + (length p - r .taken) ≤ limitsOf (r .session .setup) .session) (sym (replied g))
             (first-fed (s .args .session) p (length b) (s .pre .0) (given g)),

@@ -31,16 +31,16 @@ lines-from-requires c κs =
     )
 
 sub-session-with : tie.Need-sub-session-with
-sub-session-with c = c .before .before .before .before .before .before .before .before .before .pre .0 .within
+sub-session-with c = omega (arith, c .before .before .before .before .before .before .before .before .before .pre .0 .within, finished (c .before .before .before) .within)
 
 add-session-with : tie.Need-add-session-with
 add-session-with c = omega (arith, c .before .before .before .before .before .before .before .before .before .before .pre .1 .0)
 
 sub-session-with-2 : tie.Need-sub-session-with-2
-sub-session-with-2 c = finished (c .before .before .before .before) .within
+sub-session-with-2 c = omega (arith, c .before .before .before .before .before .before .before .before .before .before .pre .0 .within, finished (c .before .before .before .before) .within)
 
 part-session-with-start : tie.Need-part-session-with-start
-part-session-with-start c = finished (c .before .before .before .before) .within
+part-session-with-start c = omega (arith, c .before .before .before .before .before .before .before .before .before .before .pre .0 .within, finished (c .before .before .before .before) .within)
 
 part-session-with-end : tie.Need-part-session-with-end
 part-session-with-end c = search needs

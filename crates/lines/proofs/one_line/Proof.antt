@@ -61,7 +61,11 @@ moved : (c : tie.After-put-behind-arg) → let s = c .before .before .before .be
 moved c =
     let s = c .before .before .before .before .before .before .before .before .before .before .before .before .before .before .before .before .before in
     let a = s .args in
-    c .before .before .before .before .advance .ensures
+    let stepped :
+    c .before .before .before .before .advance .result
+    ≡ advanced (a .known .shown .kept) (a .progress .history) (c .before .before .before .before .before .before .before .before .before .readings .result) (c .before .before .before .before .before .before .before .before .statuses .result) (c .before .before .before .before .before .before .before .counter .result) =
+    c .before .before .before .before .advance .ensures in
+    stepped
     ∙ (λ i. advanced (kept s i) (a .progress .history) (read-readings c i) (read-statuses c i) (read-counter c i))
     ∙ advanced-next (groupsKept (a .known .setup)) (a .progress .history) _ _ _ (omega (arith, few s))
 
@@ -70,14 +74,17 @@ unfolding historyNext
 ordinal-is c = ap (λ (h : History). h .datagrams .0) (moved c) ∙ add-one (c .before .before .before .before .before .before .before .before .before .before .before .before .before .before .before .before .before .args .progress .history .datagrams .0)
 
 totals-are : (c : tie.After-put-behind-arg) → let s = c .before .before .before .before .before .before .before .before .before .before .before .before .before .before .before .before .before in c .before .totals-of .result ≡ totalsOf (nextHistory (s .args .known .setup) (s .pre .0 .accepted) (s .args .progress .history) (s .args .d .now) .axes)
-totals-are c = c .before .totals-of .ensures ∙ ap (λ (h : History). totalsOf (h .axes)) (moved c)
+totals-are c =
+    let told : c .before .totals-of .result ≡ totalsOf (c .before .before .before .before .advance .result .axes) = c .before .totals-of .ensures in
+    told ∙ ap (λ (h : History). totalsOf (h .axes)) (moved c)
 
 gap-is : (c : tie.After-put-behind-arg) → let s = c .before .before .before .before .before .before .before .before .before .before .before .before .before .before .before .before .before in c .before .before .before .before .before .gap-before .result ≡ gapIn (s .args .known .setup) (s .pre .0 .accepted) (s .args .progress .history) (s .args .d .now)
 gap-is c =
     let s = c .before .before .before .before .before .before .before .before .before .before .before .before .before .before .before .before .before in
     let a = s .args in
     let h = a .progress .history in
-    c .before .before .before .before .before .gap-before .ensures
+    let told : c .before .before .before .before .before .gap-before .result ≡ gapNext (a .known .sensor .rate) h (c .before .before .before .before .before .before .before .counter .result) = c .before .before .before .before .before .gap-before .ensures in
+    told
     ∙ (λ i. gapNext (s .pre .1 .1 i .sensor .rate) h (read-counter c i))
     ∙ accepted-gap (a .known .setup) (s .pre .0 .accepted) (awaitsFirst h) (h .previous) _
 
