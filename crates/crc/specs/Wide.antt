@@ -1,4 +1,5 @@
--- The register of `crc32`: it has width 64, and its polynomial is x^64 modulo the check's generator, so that it goes round a multiple of that.
+-- A helper of proofs, no rule of 01: the register of `crc32`, of width 64, whose polynomial is x^64 modulo the check's generator, so that it goes
+-- round a multiple of that.
 -- Assumes nothing.
 use Prim.Native.Nat.{ℕ, _/_, _%_, _^_}
 use lib.Bits.{bitXor}

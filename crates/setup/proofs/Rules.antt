@@ -3,7 +3,6 @@ use Prim.Native.Nat.{ℕ, _≤_}
 use native.Mathlib.Omega.{arith}
 use mathlib.Core.Bool.{Bool, true, false, cond}
 use mathlib.Core.List.{List, [], _∷_, _++_}
-use mathlib.Core.Logic.{_⊎_, inl, inr}
 use mathlib.Core.Option.{Option, none, some}
 use mathlib.Core.Path.{_≡_, refl, sym, ap, _∙_}
 use Rattle.setup.specs.Setup.{Rule, firstNumber, rulingNumber, rulingWith, firstOf, setupRules, setupNumber, rulingOn}
@@ -95,13 +94,6 @@ some-before (r ∷ rs) ss {n} e = by (r .applies) e (some-before rs ss)
     by : (b : Bool) → cond b (some (r .number)) (firstNumber rs) ≡ some n → (firstNumber rs ≡ some n → firstNumber (rs ++ ss) ≡ some n) → cond b (some (r .number)) (firstNumber (rs ++ ss)) ≡ some n
     by true e f = e
     by false e f = f e
-
-pub number-split : (rs ss : List Rule) {n : ℕ} → firstNumber (rs ++ ss) ≡ some n → (firstNumber rs ≡ some n) ⊎ (firstNumber ss ≡ some n)
-number-split rs ss {n} e = by (firstNumber rs) refl
-  where
-    by : (o : Option ℕ) → firstNumber rs ≡ o → (firstNumber rs ≡ some n) ⊎ (firstNumber ss ≡ some n)
-    by none q = inr (sym (none-before rs ss (no-number rs q)) ∙ e)
-    by (some m) q = inl (q ∙ sym (some-before rs ss q) ∙ e)
 
 pub first-accepted : (rs ss : List Rule) → firstOf rs ≡ Accepted → firstOf (rs ++ ss) ≡ firstOf ss
 first-accepted rs ss e = ap rulingWith (none-before rs ss (none-applies rs e))

@@ -1,4 +1,4 @@
--- What the contracts of the bench program cite.
+-- A helper of proofs, no rule of 01: what the contracts of the bench program cite.
 use Prim.Native.Nat.{ℕ, suc, _+_, _≤_, _<_, min}
 use mathlib.Core.Path.{_≡_}
 use mathlib.Core.Bool.{true, cond}

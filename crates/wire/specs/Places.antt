@@ -1,4 +1,4 @@
--- The places of the parts of a row, and the fields of a part by the place where it begins, as the code has them.
+-- A helper of proofs, no rule of 01: the places of the parts of a row, and the fields of a part by the place where it begins, as the code has them.
 use Prim.Native.Nat.{ℕ, _+_}
 use mathlib.Core.Bool.{cond}
 use mathlib.Core.List.{List, [], _∷_, _++_}
