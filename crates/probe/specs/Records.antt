@@ -1,4 +1,4 @@
--- What stands in a record of a call, by the places that src/main.rt gives. Numbers have their least significant byte first; bytes behind the
+-- A helper of proofs, no rule of 01: what stands in a record of a call, by the places that src/main.rt gives. Numbers have their least significant byte first; bytes behind the
 -- end of the record are 0.
 use Prim.Native.Nat.{ℕ, _+_, _*_}
 use mathlib.Core.Bool.{Bool, cond}
