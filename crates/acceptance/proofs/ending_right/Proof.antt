@@ -1,5 +1,11 @@
 use native.Mathlib.Omega.{arith}
-use mathlib.Core.Path.{sym}
+use Prim.Native.Nat.{_+_}
+use mathlib.Core.Path.{_≡_, sym}
+use mathlib.Core.Bool.{true, _&&_}
+use lib.Dec.{eqb}
+use lib.ListN.{getD}
+use Rattle.setup.specs.Layout.{layoutOf}
+use Rattle.acceptance.specs.Acceptable.{endingRight}
 use Rattle.acceptance.proofs.Acceptance.{ending-bytes, ending-none}
 use borrow.Author.Needs.{needs}
 use Rattle.acceptance.proofs.ending_right.Statement.{statement}
@@ -25,7 +31,11 @@ returns : tie.Need-returns
 returns c =
     let a = c .before .before .before .before .before .args in
     let with-ending = c .before .before .before .if1 .taken in
-    rw (with-ending, c .before .before .length-of .ensures) (sym (ending-bytes (a .row) (a .s .now) (rw with-ending at (c .before .before .before .before .before .pre))))
+    let at = c .before .before .length-of .result in
+    let right : (eqb (getD (a .s .now) at 0) 0x0D && eqb (getD (a .s .now) (at + 1) 0) 0x0A) ≡ endingRight (layoutOf (a .row) true) (a .s .now) =
+    rw (c .before .before .length-of .ensures)
+    (sym (ending-bytes (a .row) (a .s .now) (rw with-ending at (c .before .before .before .before .before .pre)))) in
+    rw with-ending right
 
 returns-2 : tie.Need-returns-2
 returns-2 c =

@@ -38,8 +38,10 @@ returns c =
     let second : c .before .before .byte-or-zero .result ≡ getD s (a .i + 1) 0 = c .before .before .byte-or-zero .ensures in
     let third : c .before .byte-or-zero2 .result ≡ getD s (a .i + 2) 0 = c .before .byte-or-zero2 .ensures in
     let fourth : 0 ≡ getD s (a .i + 3) 0 = sym (List·getD-eq-default s 0 (omega arith)) in
-    let last : getD s (a .i) 0 ∷ c .before .before .byte-or-zero .result ∷ c .before .byte-or-zero2 .result ∷ 0 ∷ [] ≡ four s (a .i) = cc in
-    let step : remainder (c .word-step .result) ≡ register 32 0x04C11DB7 from (four s (a .i)) = c .word-step .ensures ∙ ap (register 32 0x04C11DB7 from) last in
+    let bytes : List ℕ = getD s (a .i) 0 ∷ c .before .before .byte-or-zero .result ∷ c .before .byte-or-zero2 .result ∷ 0 ∷ [] in
+    let last : bytes ≡ four s (a .i) = cc in
+    let word : remainder (c .word-step .result) ≡ register 32 0x04C11DB7 from bytes = c .word-step .ensures in
+    let step : remainder (c .word-step .result) ≡ register 32 0x04C11DB7 from (four s (a .i)) = word ∙ ap (register 32 0x04C11DB7 from) last in
     sym (four-end 32 0x04C11DB7 (remainder (c .word-step .result)) s (a .i + 4) (omega arith) (omega arith))
     ∙ four-next 32 0x04C11DB7 from s (a .i) (omega arith) (remainder (c .word-step .result)) (register 32 0x04C11DB7 from (drop (a .i) (covered 4 s))) (omega arith) step refl
 

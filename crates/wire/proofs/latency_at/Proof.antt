@@ -1,4 +1,7 @@
-use mathlib.Core.Path.{sym, ap, _∙_}
+use Prim.Native.Nat.{_+_}
+use mathlib.Core.List.{[], _∷_}
+use mathlib.Core.Path.{_≡_, sym, ap, _∙_}
+use lib.ListN.{getD}
 use Rattle.integers.specs.Bytes.{bigEndian}
 use Rattle.wire.proofs.FieldPlaces.{two-bytes}
 use borrow.Author.Needs.{needs}
@@ -35,7 +38,8 @@ unsigned-of-requires-2 c κs = search needs
 returns : tie.Need-returns
 returns c =
     let a = c .before .before .before .before .before .args in
-    c .unsigned-of .ensures ∙ ap bigEndian (sym (two-bytes (a .at) (a .s .now)))
+    let value : c .unsigned-of .result ≡ bigEndian (getD (a .s .now) (a .at) 0 ∷ getD (a .s .now) (a .at + 1) 0 ∷ []) = c .unsigned-of .ensures in
+    value ∙ ap bigEndian (sym (two-bytes (a .at) (a .s .now)))
 
 returns-2 : tie.Need-returns-2
 returns-2 c =
