@@ -29,11 +29,11 @@ use Rattle.acceptance.proofs.Acceptance.{Facts, accepted, accepts}
 abbrev pub fourBytes : ℕ → List ℕ
 fourBytes n = n / 16777216 ∷ n / 65536 % 256 ∷ n / 256 % 256 ∷ n % 256 ∷ []
 
-four-value : (n : ℕ) → bigEndian (fourBytes n) ≡ n
+pub four-value : (n : ℕ) → bigEndian (fourBytes n) ≡ n
 unfolding bigEndian
 four-value n = omega arith
 
-four-bytes : (n : ℕ) → n < 2 ^ 32 → AllBytes (fourBytes n)
+pub four-bytes : (n : ℕ) → n < 2 ^ 32 → AllBytes (fourBytes n)
 four-bytes n h = bytes-cons (omega arith) (bytes-cons (omega arith) (bytes-cons (omega arith) (bytes-cons (omega arith) bytes-nil)))
 
 ending-bytes : (r : Row) (t : Bool) → AllBytes (layoutOf r t .ending)

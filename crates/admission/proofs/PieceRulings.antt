@@ -82,3 +82,7 @@ module _ (s : Session) (n : ℕ) where
   pub number-refused : {m : ℕ} → pieceNumber s n ≡ some m → pieceRuling s n ≡ Refused m
   unfolding pieceRuling pieceNumber
   number-refused e = ap rulingWith e
+
+  pub number-admits : pieceNumber s n ≡ none → pieceRuling s n ≡ Accepted
+  unfolding pieceRuling pieceNumber
+  number-admits e = ap rulingWith e

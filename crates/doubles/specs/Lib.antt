@@ -1,2 +1,3 @@
--- The rules of readings and totals as doubles.
+-- The rules of readings and totals as doubles; the starred bench cases.
 pub mod Doubles
+pub mod Starred

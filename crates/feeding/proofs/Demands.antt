@@ -18,11 +18,12 @@ use Rattle.wire.specs.Fields.{fieldsOf}
 use Rattle.motion.specs.Totals as totals
 use Rattle.motion.specs.Totals.{Sighting, keeps, axisAt, none, totalOf, totalAt, fitReadings, fitBefore, readingOf}
 use Rattle.motion.specs.declared.Total.{Total}
+use Rattle.motion.proofs.AcceptedSetup.{integrated-kept}
 use Rattle.motion.proofs.Bounds.{keptAfter}
 use Rattle.motion.proofs.TrueChange.{kept-at-each, carried-at, place-of}
 use Rattle.scan.specs.Scan.{scan}
 use Rattle.scan.specs.Calls as calls
-use Rattle.scan.specs.Calls.{Report, skip}
+use Rattle.scan.specs.Calls.{Report}
 use Rattle.scan.specs.Stream.{joined, Among, Bare, NoTen}
 use Rattle.scan.specs.Carry.{steps, carriedAfter, Delivered}
 use Rattle.scan.proofs.AmongLaws.{scan-among, among-scan}
@@ -251,7 +252,9 @@ module _ (u : Setup) (ok : rulingOn u ≡ Accepted) where
         );
         streams = λ v h. let r = every-stream (limitsOf u) (omega arith) v h in (r .0, r .2);
         handed-out = λ c es a. answers c es a;
-        change = λ c es a group axis h k keep fine some ts C i l fit. change-at c es a i l group axis h k keep fine some ts C fit;
+        change =
+            λ c es a group axis h k three fine some ts C i l fit.
+            change-at c es a i l group axis h k (integrated-kept u ok group h three) fine some ts C fit;
         all-carried = all-carried-at;
       }
 
@@ -320,7 +323,6 @@ one-length =
       held-undecided = λ s t. undecided-held s (ten-sound s t);
       last-byte = λ s t p q. handed-last s (ten-sound s t) p (told-handed (feedOf s p .datagram) (feedOf s p .answer) q);
       counted = λ u e c. let ok = number-accepted u e in (counted u ok c, bytes-sum u ok c);
-      unfed = λ c. skip c;
     }
 
 -- Every call, on any session and any piece

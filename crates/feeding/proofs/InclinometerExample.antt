@@ -134,7 +134,7 @@ module _ {os : List Datagram} {rs : List Report} {t : Session} (c : FedInTurn ex
   unfolding fitBefore fitReadings unfit fieldsOf fieldsOfPart partsAt rowAt partsOf bigEndian
   example-stands =
       let r =
-      demand3 example accepted-example .change c datagrams among-example 2 2 (omega arith) (omega arith) keeps-example 360 (omega arith) angles
+      demand3 example accepted-example .change c datagrams among-example 2 2 (omega arith) (omega arith) refl 360 (omega arith) angles
       carry-example 4 (omega arith) fit-example
       in
       subst (λ (k : ℕ). Stands example 2 2 360 (negsuc 3019892382) (getD angles k (pos 0)) (getD os 4 noDatagram)) (r .1) (r .4)

@@ -21,7 +21,7 @@ use Rattle.acceptance.specs.Acceptable.{checkRight, endingRight, acceptableIn, 
 use Rattle.gaps.specs.Gaps.{datagrams as count, elapsed, missedAfter, missedAt}
 use Rattle.gaps.specs.declared.Gap.the-variants.{Missed}
 use Rattle.motion.specs.Status.{unfit}
-use Rattle.motion.specs.Totals.{keeps, totalAt, fitReadings, fitBefore, readingOf, CloseFrom, Close}
+use Rattle.motion.specs.Totals.{totalAt, fitReadings, fitBefore, readingOf, CloseFrom, Close}
 use Rattle.scan.specs.Scan.{scanFrom, scan}
 use Rattle.scan.specs.Front.{front}
 use Rattle.scan.specs.Calls.{Report, takenWhole, turnedDown}
@@ -99,10 +99,6 @@ carry-example : Carry 1000 (sightings example 0 0 datagrams) angles
 unfolding fitReadings readingOf fold twosComplement Close CloseFrom unfit fieldsOf fieldsOfPart partsAt rowAt partsOf signedBytes bigEndian
 carry-example = record { carried = refl; close = (omega arith, tt) }
 
-keeps-example : keeps example 0 ≡ true
-unfolding groupsCarried partsAt rowAt partsOf
-keeps-example = refl
-
 fit-example : sighting example 0 0 (getD datagrams 2 []) .fit ≡ true
 unfolding unfit fieldsOf fieldsOfPart partsAt rowAt partsOf bigEndian
 fit-example = refl
@@ -114,7 +110,7 @@ example-stands :
 unfolding fitBefore fitReadings unfit fieldsOf fieldsOfPart partsAt rowAt partsOf bigEndian
 example-stands {os} c =
     let r =
-    demand3 example accepted-example .change c datagrams among-example 0 0 (omega arith) (omega arith) keeps-example 1000 (omega arith) angles
+    demand3 example accepted-example .change c datagrams among-example 0 0 (omega arith) (omega arith) refl 1000 (omega arith) angles
     carry-example 2 (omega arith) fit-example
     in
     subst (λ (k : ℕ). Stands example 0 0 1000 (pos 8388600123) (getD angles k (pos 0)) (getD os 2 noDatagram)) (r .1) (r .4)

@@ -1,14 +1,14 @@
 -- What the base promises of feeding only because all datagrams of a session have one length. Request 2.7 ends it, and with it this file:
 -- then bytes held may have a whole datagram in them, an empty piece can bring it out, and datagrams of several kinds are handed out.
 use Prim.Native.Nat.{ℕ, _+_, _*_, _≤_}
-use mathlib.Core.List.{List, [], _∷_}
+use mathlib.Core.List.{List, []}
 use mathlib.Core.Option.{none}
 use mathlib.Core.Path.{_≡_}
 use lib.ListN.{length}
 use Rattle.setup.specs.Setup.{setupNumber, lengthOf}
 use Rattle.setup.specs.declared.Setup.{Setup}
 use Rattle.scan.specs.Scan.{Undecided}
-use Rattle.scan.specs.Calls.{datagram, Report, takenWhole}
+use Rattle.scan.specs.Calls.{datagram, Report}
 use Rattle.search.specs.Search.{verdictOf}
 use Rattle.session.specs.Session.{opening}
 use Rattle.admission.specs.Admission.{heldBytes}
@@ -35,7 +35,3 @@ pub record OneLength : Type 0 where
       (u : Setup) → setupNumber u ≡ none
       → {ps : List (List ℕ)} {os : List Datagram} {rs : List Report} {t : Session} → Calls (opening u .session) ps os rs t
       → (t .history .datagrams .0 ≡ length os) × (lengthOf u * length os + t .passed + t .count ≡ t .fed)
-  -- where nothing is left of a piece, no call is needed
-  pub unfed :
-      {s t : Session} {ps : List (List ℕ)} {os : List Datagram} {rs : List Report} → Calls s ps os rs t
-      → Calls s ([] ∷ ps) os (record { outcome = takenWhole; taken = 0 } ∷ rs) t

@@ -15,8 +15,8 @@ use Rattle.setup.specs.Setup.{rulingNumber, setupNumber, lengthOf}
 use Rattle.setup.specs.declared.Setup.{Setup}
 use Rattle.wire.specs.Fields.{fieldsOf, besidesReadings}
 use Rattle.gaps.specs.Gaps.{datagrams, missedIn, missedAt}
-use Rattle.motion.specs.Status.{flagged}
-use Rattle.motion.specs.Totals.{noAxis, Sighting, axisStep, keeps, seen, axisAt, totalAt, fitReadings, fitBefore, readingOf, Close, totalOf, after}
+use Rattle.motion.specs.Status.{fit, flagged}
+use Rattle.motion.specs.Totals.{noAxis, Sighting, axisStep, keeps, axisAt, totalAt, fitReadings, fitBefore, readingOf, Close, totalOf, after}
 use Rattle.doubles.specs.Doubles.{negative, plusZero, unitNumberIn, doublesIn, valuesFor, doubleAt}
 use Rattle.scan.specs.Scan.{scan, Undecided}
 use Rattle.scan.specs.Calls.{datagram, waiting, refused, Report}
@@ -50,7 +50,11 @@ module _ (u : Setup) where
 
   -- what an axis of a group sees of a datagram: its own reading, and whether the group's status byte leaves it fit
   abbrev pub sighting : ℕ → ℕ → List ℕ → Sighting
-  sighting group axis d = seen (fieldsOf (u .identifier) d .readings) (fieldsOf (u .identifier) d .statuses) group axis
+  sighting group axis d =
+      record {
+        fit = fit (getD (fieldsOf (u .identifier) d .statuses) group 0) axis;
+        reading = getD (getD (fieldsOf (u .identifier) d .readings) group []) axis (pos 0);
+      }
 
   abbrev pub sightings : ℕ → ℕ → List (List ℕ) → List Sighting
   sightings group axis ds = map (sighting group axis) ds
@@ -266,11 +270,11 @@ pub record Demand3 (u : Setup) : Type 0 where
   -- exactly the stream's datagrams are handed out, in order
   pub handed-out :
       {ps : List (List ℕ)} {os : List Datagram} {rs : List Report} {t : Session} → FedInTurn u ps os rs t → HandsOut u ps os
-  -- at each of them that is fit for an axis that keeps a total, the answer stands for the change from the first true value to the one that it carries
+  -- at each of them that is fit for an axis of a group set to integrated, the answer stands for the change from the first true value to the one that it carries
   pub change :
       {ps : List (List ℕ)} {os : List Datagram} {rs : List Report} {t : Session} → FedInTurn u ps os rs t
       → (es : List (List ℕ)) → Among (isDatagram u) (streamOf u ps) es
-      → (group axis : ℕ) → group < 3 → axis < 3 → keeps u group ≡ true
+      → (group axis : ℕ) → group < 3 → axis < 3 → getD (u .units) group 0 ≡ 3
       → (fine : ℕ) → 0 < fine → (ts : List ℤ) → Carry fine (sightings u group axis es) ts
       → (i : ℕ) → i < length es → sighting u group axis (getD es i []) .fit ≡ true
       → (k : ℕ) × (k ≡ fitBefore (sightings u group axis es) i) × (k < length ts)

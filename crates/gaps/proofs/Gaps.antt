@@ -2,15 +2,16 @@
 use Prim.Native.Nat.{ℕ, zero, suc, _+_, _-_, _*_, _/_, _%_, _≤_, _<_}
 use mathlib.Core.Bool.{Bool, true, false, cond}
 use mathlib.Core.Option.{Option, none, some}
-use mathlib.Core.Path.{_≡_, refl, ap, _∙_}
+use mathlib.Core.Path.{_≡_, refl, sym, ap, _∙_}
 use native.Mathlib.Nat.{div-add-mod', le-div-iff-mul-le, zero-mul, mul-mod-left, mul-div-cancel}
 use native.Mathlib.Omega.{arith}
 use lib.Dec.{eqb}
 use lib.IntN.{pos, _-ℤ_}
-use borrow.Author.Tests.{eqb-false, ne-eqb}
+use borrow.Author.Tests.{eqb-true, eqb-false, ne-eqb}
 use Rattle.integers.specs.Rounding.{residue}
 use Rattle.integers.proofs.Parts.{sub-parts}
 use Rattle.integers.proofs.Rounding.{residue-below, floor-split}
+use Rattle.gaps.specs.declared.Samples.{Samples}
 use Rattle.gaps.specs.declared.Datagrams.{Datagrams}
 use Rattle.gaps.specs.Gaps.{samples, datagrams, missedIn, gapWith, stepAt, elapsed, missedAfter, missedAt}
 
@@ -36,6 +37,17 @@ picked d false e h = let k : d ≡ 0 → ⊥ = eqb-false d 0 e in omega arith
 pub elapsed-range : (previous counter : ℕ) → (0 < elapsed previous counter .0) × (elapsed previous counter .0 ≤ 256)
 unfolding elapsed
 elapsed-range p n = let d = residue (pos n -ℤ pos p) 256 in picked d (eqb d 0) refl (residue-below (pos n -ℤ pos p) 256 (omega arith))
+
+-- and bring the previous counter to the new one, modulo 256
+pub elapsed-back : (previous counter : ℕ) → previous < 256 → counter < 256 → (previous + elapsed previous counter .0) % 256 ≡ counter
+elapsed-back p n h k =
+    let d = (n + 256 - p) % 256 in
+    let e : elapsed p n .0 ≡ cond (eqb d 0) 256 d = ap (λ (x : Samples). x .0) (sym (elapsed-code p n d (omega arith) refl)) in
+    by (eqb d 0) refl e
+  where
+    by : (b : Bool) → eqb ((n + 256 - p) % 256) 0 ≡ b → elapsed p n .0 ≡ cond (eqb ((n + 256 - p) % 256) 0) 256 ((n + 256 - p) % 256) → (p + elapsed p n .0) % 256 ≡ n
+    by true q e = let z : (n + 256 - p) % 256 ≡ 0 = eqb-true ((n + 256 - p) % 256) 0 q in let f : elapsed p n .0 ≡ 256 = rw q at e in omega arith
+    by false q e = let f : elapsed p n .0 ≡ (n + 256 - p) % 256 = rw q at e in omega arith
 
 -- up to a rate of 2,000 there is a sample at least from one datagram to the next
 step-positive : (rate : ℕ) → 0 < rate → rate ≤ 2000 → 0 < 2000 / rate

@@ -12,7 +12,7 @@ use Rattle.setup.proofs.Sensors.{described-number, described-sensor}
 use Rattle.scan.specs.Scan.{Verdict, first}
 use Rattle.search.specs.Search.{verdictOf, verdictIn, placeOf}
 use Rattle.search.proofs.Sensors.{verdict-sensor}
-use Rattle.search.proofs.Places.{place-none, place-complete, place-open}
+use Rattle.search.proofs.Places.{place-none, place-decided, place-complete, place-open}
 use Rattle.admission.proofs.PieceRulings.{admitted-number, admitted-sensor}
 use Rattle.promises.specs.BuildingBlocks.{FoundAt, BuildingBlocks}
 
@@ -20,7 +20,7 @@ found-at : (u : Setup) → setupNumber u ≡ none → (v : List ℕ) → FoundAt
 found-at u e v =
     let ok = number-accepted u e in
     subst (λ (w : List ℕ → Verdict). FoundAt u v (placeOf (first w v))) (sym (verdict-sensor u ok))
-    (record { none-begins = place-none u ok v; complete = λ q. place-complete u ok v q; undecided = place-open u ok v })
+    (record { none-begins = place-none u ok v; decided = place-decided u ok v; complete = λ q. place-complete u ok v q; undecided = place-open u ok v })
 
 pub building-blocks : BuildingBlocks
 building-blocks =

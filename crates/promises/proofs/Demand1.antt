@@ -1,10 +1,12 @@
 -- Demand 1: what comes back of lent memory, and which numbers can come out. Assumes nothing.
-use mathlib.Core.List.{List}
-use mathlib.Core.Path.{_≡_, refl, sym, ap, _∙_}
+use mathlib.Core.List.{List, [], _∷_, _++_}
+use mathlib.Core.Option.{none}
+use mathlib.Core.Path.{_≡_, refl, sym, ap, _∙_, subst}
+use native.Mathlib.Omega.{arith}
 use Prim.Native.Nat.{ℕ}
 use lib.IntN.{ℤ}
-use lib.ListN.{length}
-use Rattle.setup.specs.Setup.{rulingNumber}
+use lib.ListN.{length, drop}
+use Rattle.setup.specs.Setup.{rulingNumber, zeroSetup}
 use Rattle.setup.specs.declared.Setup.{Setup}
 use Rattle.setup.proofs.Rules.{none-accepted, some-refused, number-accepted, number-refused, accepted-number, ruling-number}
 use Rattle.setup.proofs.Refusals.{judge-numbers}
@@ -12,18 +14,27 @@ use Rattle.setup_line.specs.SetupLine as line
 use Rattle.setup_line.proofs.LineAnswers.{line-number, line-numbers, refused-zeros, accepted-line}
 use Rattle.gaps.specs.declared.Gap.{Gap}
 use Rattle.motion.specs.declared.Totals.{Totals}
-use Rattle.session.specs.Session.{opening}
+use Rattle.motion.proofs.NineAxes.{none-at}
+use Rattle.text_line.specs.declared.Shown.{Shown}
+use Rattle.text_line.specs.ShownLine.{shownText}
+use Rattle.text_line.proofs.ShownLaws.{shown-numbers, shown-keeps, shown-tells, shown-front}
+use Rattle.scan.specs.Calls.{Report}
+use Rattle.session.specs.Session.{freshOf}
 use Rattle.session.specs.declared.Session.{Session}
 use Rattle.session.specs.declared.Opened.{Opened}
 use Rattle.session.proofs.Opening.{opened, refused-opening, opening-ruling}
 use Rattle.admission.proofs.PieceRulings as piece
-use Rattle.feeding.specs.declared.Reply.{Reply}
+use Rattle.feeding.specs.declared.Datagram.{Datagram}
+use Rattle.feeding.specs.Feed.{Calls}
 use Rattle.feeding.proofs.CallParts.{fed-refused}
 use Rattle.feeding.proofs.EachCall.{fed-number}
 use Rattle.text.proofs.LineLaws as text
-use Rattle.lines.proofs.Batches.{batch-numbers}
+use Rattle.lines.specs.Lines.{receivedNumber, linesAfter, linesIn}
+use Rattle.lines.specs.declared.Batch.{Batch}
+use Rattle.lines.proofs.Batches.{fourteen, fitting-lines, Way, turned-down, too-long, fitting, way, batch-numbers}
+use Rattle.lines.proofs.OneByOne.{run, one-by-one}
 use Rattle.lines.proofs.BatchAnswers.{batch-number, batch-refused, batch-written}
-use Rattle.promises.specs.Demand1.{LineRead, SetupJudged, SessionOpened, PieceFed, LineWritten, PieceReceived, Demand1}
+use Rattle.promises.specs.Demand1.{LineRead, SetupJudged, IsFresh, SessionOpened, PieceFed, LineWritten, ShownWritten, PieceReceived, Demand1}
 
 line-read : (l : List ℕ) → LineRead l
 line-read l =
@@ -40,12 +51,23 @@ line-read l =
 setup-judged : (u : Setup) → SetupJudged u
 setup-judged u = record { number = ruling-number u; numbers = λ e. judge-numbers u (number-refused u e) }
 
+is-fresh : (u : Setup) → IsFresh u (freshOf u)
+unfolding freshOf
+is-fresh u =
+    record {
+      setup = refl;
+      held = refl;
+      counts = (refl, refl, refl);
+      datagrams = (refl, refl);
+      axes = none-at;
+    }
+
 session-opened : (u : Setup) → SessionOpened u
 session-opened u =
     record {
       number = ap rulingNumber (opening-ruling u) ∙ ruling-number u;
-      refused = λ e. ap (λ (o : Opened). o .session) (refused-opening u (number-refused u e));
-      accepted = λ e. ap (λ (o : Opened). o .session) (opened u (number-accepted u e));
+      refused = λ e. subst (IsFresh zeroSetup) (sym (ap (λ (o : Opened). o .session) (refused-opening u (number-refused u e)))) (is-fresh zeroSetup);
+      accepted = λ e. subst (IsFresh u) (sym (ap (λ (o : Opened). o .session) (opened u (number-accepted u e)))) (is-fresh u);
     }
 
 piece-fed : (s : Session) (p : List ℕ) → PieceFed s p
@@ -56,6 +78,27 @@ piece-fed s p =
       refused = λ e. fed-refused s p (piece.number-refused s (length p) e);
     }
 
+-- a piece of which the lines were written was fed to its end
+module _ (s : Session) (p b : List ℕ) (long : length (s .held) ≡ 64) where
+  same-as-fed :
+      {x : Batch} → Way s p b x → receivedNumber (x .answer) ≡ none
+      → {os : List Datagram} {rs : List Report} {t : Session} → Calls s (p ∷ []) os rs t
+      → (linesIn s p ≡ linesAfter (s .setup) (s .history .datagrams .0) os) × (x .session ≡ t)
+  unfolding linesIn
+  same-as-fed (turned-down e) q c = absurd (let z : _≡_ {A = ℕ} 0 1 = cc in omega arith)
+  same-as-fed (too-long e l) q c = absurd (let z : _≡_ {A = ℕ} 0 1 = cc in omega arith)
+  same-as-fed (fitting e l) q c =
+      let a = piece.admitted s (length p) e in
+      let o = one-by-one s p (a .sound) (a .piece) (a .session) long c in
+      (ap (linesAfter (s .setup) (s .history .datagrams .0)) (sym (o .0)), sym (o .1))
+
+  run-of :
+      {x : Batch} → Way s p b x → receivedNumber (x .answer) ≡ none
+      → (os : List Datagram) × (rs : List Report) × (t : Session) × Calls s (p ∷ []) os rs t
+  run-of (turned-down e) q = absurd (let z : _≡_ {A = ℕ} 0 1 = cc in omega arith)
+  run-of (too-long e l) q = absurd (let z : _≡_ {A = ℕ} 0 1 = cc in omega arith)
+  run-of (fitting e l) q = let a = piece.admitted s (length p) e in run s p (a .sound) (a .piece) (a .session) long
+
 piece-received : (s : Session) (p b : List ℕ) → PieceReceived s p b
 piece-received s p b =
     record {
@@ -63,6 +106,10 @@ piece-received s p b =
       numbers = λ e. batch-numbers s p b e;
       refused = λ e. batch-refused s p b (sym (batch-number s p b) ∙ e);
       written = λ e. batch-written s p b (sym (batch-number s p b) ∙ e);
+      fits = λ e l. ap (λ (x : Batch). receivedNumber (x .answer)) (fitting-lines s p b (piece.number-admits s (length p) e) l);
+      too-long = λ e l. ap (λ (x : Batch). receivedNumber (x .answer)) (fourteen s p b (piece.number-admits s (length p) e) l);
+      same = λ long e c. same-as-fed s p b long (way s p b) e c;
+      runs = λ long e. run-of s p b long (way s p b) e;
     }
 
 module _ (b : List ℕ) (u : Setup) (ordinal counter latency : ℕ) (gap : Gap) (readings : List (List ℤ)) (statuses : List ℕ) (totals : Totals) where
@@ -73,6 +120,23 @@ module _ (b : List ℕ) (u : Setup) (ordinal counter latency : ℕ) (gap : Gap) 
         numbers = λ e. text.answer-numbers b u ordinal counter latency gap readings statuses totals e;
         refused = λ e. text.refused-keeps b u ordinal counter latency gap readings statuses totals e;
         written = λ e. text.written-whole b u ordinal counter latency gap readings statuses totals e;
+        fits = λ e h l. text.enough-room b u ordinal counter latency gap readings statuses totals (number-accepted u e) h l;
+        too-long = λ e h l. text.too-short b u ordinal counter latency gap readings statuses totals (number-accepted u e) h l;
+      }
+
+module _ (b : List ℕ) (shown : Shown) (ordinal counter latency : ℕ) (gap : Gap) (readings : List (List ℤ)) (statuses : List ℕ) (totals : Totals) where
+  shown-written : ShownWritten b shown ordinal counter latency gap readings statuses totals
+  shown-written =
+      record {
+        numbers = λ e. shown-numbers b shown ordinal counter latency gap readings statuses totals e;
+        refused = λ e. shown-keeps b shown ordinal counter latency gap readings statuses totals e;
+        written =
+            λ e.
+            let n = shown-tells b shown ordinal counter latency gap readings statuses totals e .0 in (
+              n,
+              shown-front b shown ordinal counter latency gap readings statuses totals e
+                  ∙ ap (λ (k : ℕ). shownText shown ordinal counter latency gap readings statuses totals ++ drop k b) n,
+            );
       }
 
 pub demand1 : Demand1
@@ -83,5 +147,6 @@ demand1 =
       session-opened = session-opened;
       piece-fed = piece-fed;
       line-written = line-written;
+      shown-written = shown-written;
       piece-received = piece-received;
     }

@@ -1,4 +1,5 @@
 -- The proof of what is promised.
 pub mod Demand1
 pub mod BuildingBlocks
+pub mod PaperRules
 pub mod Promised

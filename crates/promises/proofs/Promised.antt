@@ -9,6 +9,7 @@ use Rattle.lines.proofs.LinesInTurn.{lines-in-turn}
 use Rattle.promises.specs.Promised.{OfSetup, Promised}
 use Rattle.promises.proofs.Demand1.{demand1}
 use Rattle.promises.proofs.BuildingBlocks.{building-blocks}
+use Rattle.promises.proofs.PaperRules.{paper-rules}
 
 of-setup : (u : Setup) → setupNumber u ≡ none → OfSetup u
 of-setup u e =
@@ -16,4 +17,4 @@ of-setup u e =
     record { demand2 = demand2 u ok; demand3 = demand3 u ok; lines = lines-in-turn u ok }
 
 pub promised : Promised
-promised = record { demand1 = demand1; every-call = every-call; each-setup = of-setup; blocks = building-blocks }
+promised = record { demand1 = demand1; every-call = every-call; each-setup = of-setup; blocks = building-blocks; rules = paper-rules }

@@ -1,25 +1,31 @@
--- Demand 1 (00-mission): of each call that 01 names, what comes back of the memory lent to it, and which numbers can come out.
+-- Demand 1 (00-mission): of each call that 01 names, and of the two that write lines beside it, what comes back of the memory lent to it, and which
+-- numbers can come out.
 -- Received bytes are lent as `&[u8]`, which no function can write; that every call ends, and judges its own input, is the language's: no public
 -- function has a `requires`.
-use Prim.Native.Nat.{ℕ, _≤_}
-use mathlib.Core.List.{List, _++_}
+use Prim.Native.Nat.{ℕ, _≤_, _<_}
+use mathlib.Core.Bool.{false}
+use mathlib.Core.List.{List, [], _∷_, _++_}
 use mathlib.Core.Logic.{_⊎_}
 use mathlib.Core.Option.{none, some}
 use mathlib.Core.Path.{_≡_}
 use lib.IntN.{ℤ}
-use lib.ListN.{length, drop}
+use lib.ListN.{length, drop, replicate}
 use Rattle.setup.specs.Setup.{firstNumber, rulingNumber, setupNumber, rulingOn, zeroSetup}
 use Rattle.setup.specs.declared.Setup.{Setup}
 use Rattle.setup_line.specs.SetupLine as line
 use Rattle.gaps.specs.declared.Gap.{Gap}
+use Rattle.motion.specs.Totals.{noAxis, axisAt}
 use Rattle.motion.specs.declared.Totals.{Totals}
-use Rattle.text_line.specs.ShownLine.{writtenNumber, writtenBytes}
+use Rattle.text_line.specs.ShownLine.{shownText, outside, writtenNumber, writtenBytes, shownAnswer, shownBuffer}
+use Rattle.text_line.specs.declared.Shown.{Shown}
 use Rattle.text.specs.TextLine.{lineText, lineRules, lineAnswer, lineBuffer}
-use Rattle.session.specs.Session.{freshOf, opening}
+use Rattle.scan.specs.Calls.{Report}
+use Rattle.session.specs.Session.{opening}
 use Rattle.session.specs.declared.Session.{Session}
 use Rattle.admission.specs.Admission.{pieceNumber}
-use Rattle.feeding.specs.Feed.{answerNumber, refusal, feedOf}
-use Rattle.lines.specs.Lines.{receivedNumber, receivedBytes, linesIn, batchRules, batchOf, batchBuffer}
+use Rattle.feeding.specs.Feed.{answerNumber, refusal, feedOf, Calls}
+use Rattle.feeding.specs.declared.Datagram.{Datagram}
+use Rattle.lines.specs.Lines.{receivedNumber, receivedBytes, linesAfter, linesIn, batchRules, batchOf, batchBuffer}
 
 -- a number from the one to the other
 abbrev pub Between : ℕ → ℕ → ℕ → Type 0
@@ -41,12 +47,20 @@ pub record SetupJudged (u : Setup) : Type 0 where
   pub number : rulingNumber (rulingOn u) ≡ setupNumber u
   pub numbers : {n : ℕ} → setupNumber u ≡ some n → Between 4 9 n
 
+-- a session of a setup that holds nothing and has counted nothing
+pub record IsFresh (u : Setup) (s : Session) : Type 0 where
+  pub setup : s .setup ≡ u
+  pub held : s .held ≡ replicate 64 0
+  pub counts : (s .count ≡ 0) × (s .passed ≡ 0) × (s .fed ≡ 0)
+  pub datagrams : (s .history .datagrams .0 ≡ 0) × (s .history .previous ≡ 0)
+  pub axes : (group axis : ℕ) → group < 3 → axis < 3 → axisAt (s .history .axes) group axis ≡ noAxis
+
 -- opening a session of it, `session::open`
 pub record SessionOpened (u : Setup) : Type 0 where
-  -- by the same number, with a session of zeros; or with a fresh one, that holds nothing
+  -- by the same number, with a session of zeros; or with a fresh one
   pub number : rulingNumber (opening u .answer) ≡ setupNumber u
-  pub refused : {n : ℕ} → setupNumber u ≡ some n → opening u .session ≡ freshOf zeroSetup
-  pub accepted : setupNumber u ≡ none → opening u .session ≡ freshOf u
+  pub refused : {n : ℕ} → setupNumber u ≡ some n → IsFresh zeroSetup (opening u .session)
+  pub accepted : setupNumber u ≡ none → IsFresh u (opening u .session)
 
 -- feeding a piece, `receiver::feed`
 pub record PieceFed (s : Session) (p : List ℕ) : Type 0 where
@@ -75,6 +89,31 @@ pub record LineWritten
       (length text ≤ length b)
       × (writtenBytes (lineAnswer b u ordinal counter latency gap readings statuses totals) ≡ length text)
       × (lineBuffer b u ordinal counter latency gap readings statuses totals ≡ text ++ drop (length text) b)
+  -- 14 refuses a line that nothing before it does exactly if the buffer is shorter than the line
+  pub fits :
+      setupNumber u ≡ none → outside ordinal readings totals ≡ false
+      → length (lineText u ordinal counter latency gap readings statuses totals) ≤ length b
+      → writtenNumber (lineAnswer b u ordinal counter latency gap readings statuses totals) ≡ none
+  pub too-long :
+      setupNumber u ≡ none → outside ordinal readings totals ≡ false
+      → length b < length (lineText u ordinal counter latency gap readings statuses totals)
+      → writtenNumber (lineAnswer b u ordinal counter latency gap readings statuses totals) ≡ some 14
+
+-- the same of what is shown, whatever the setup, `text_line::write_shown`
+pub record ShownWritten
+    (b : List ℕ) (shown : Shown) (ordinal counter latency : ℕ) (gap : Gap) (readings : List (List ℤ)) (statuses : List ℕ) (totals : Totals) : Type 0 where
+  -- 13 or 14 refuses it, and then nothing is written
+  pub numbers :
+      {n : ℕ} → writtenNumber (shownAnswer b shown ordinal counter latency gap readings statuses totals) ≡ some n → Between 13 14 n
+  pub refused :
+      {n : ℕ} → writtenNumber (shownAnswer b shown ordinal counter latency gap readings statuses totals) ≡ some n
+      → shownBuffer b shown ordinal counter latency gap readings statuses totals ≡ b
+  -- else the line stands at the front, whole
+  pub written :
+      writtenNumber (shownAnswer b shown ordinal counter latency gap readings statuses totals) ≡ none
+      → let text = shownText shown ordinal counter latency gap readings statuses totals in
+      (writtenBytes (shownAnswer b shown ordinal counter latency gap readings statuses totals) ≡ length text)
+      × (shownBuffer b shown ordinal counter latency gap readings statuses totals ≡ text ++ drop (length text) b)
 
 -- feeding a piece to its end with its lines into the lent buffer b, `lines::receive_lines`
 pub record PieceReceived (s : Session) (p b : List ℕ) : Type 0 where
@@ -90,6 +129,17 @@ pub record PieceReceived (s : Session) (p b : List ℕ) : Type 0 where
       → (length (linesIn s p) ≤ length b)
       × (receivedBytes (batchOf s p (length b) .answer) ≡ length (linesIn s p))
       × (batchBuffer s p b ≡ linesIn s p ++ drop (length (linesIn s p)) b)
+  -- 14 refuses a piece that feeding doesn't exactly if the buffer is shorter than the lines
+  pub fits : pieceNumber s (length p) ≡ none → length (linesIn s p) ≤ length b → receivedNumber (batchOf s p (length b) .answer) ≡ none
+  pub too-long : pieceNumber s (length p) ≡ none → length b < length (linesIn s p) → receivedNumber (batchOf s p (length b) .answer) ≡ some 14
+  -- and these are the lines of the datagrams that calls of feeding hand out until the piece is taken, which leave the same session
+  pub same :
+      length (s .held) ≡ 64 → receivedNumber (batchOf s p (length b) .answer) ≡ none
+      → {os : List Datagram} {rs : List Report} {t : Session} → Calls s (p ∷ []) os rs t
+      → (linesIn s p ≡ linesAfter (s .setup) (s .history .datagrams .0) os) × (batchOf s p (length b) .session ≡ t)
+  pub runs :
+      length (s .held) ≡ 64 → receivedNumber (batchOf s p (length b) .answer) ≡ none
+      → (os : List Datagram) × (rs : List Report) × (t : Session) × Calls s (p ∷ []) os rs t
 
 pub record Demand1 : Type 0 where
   pub line-read : (l : List ℕ) → LineRead l
@@ -99,4 +149,7 @@ pub record Demand1 : Type 0 where
   pub line-written :
       (b : List ℕ) (u : Setup) (ordinal counter latency : ℕ) (gap : Gap) (readings : List (List ℤ)) (statuses : List ℕ) (totals : Totals)
       → LineWritten b u ordinal counter latency gap readings statuses totals
+  pub shown-written :
+      (b : List ℕ) (shown : Shown) (ordinal counter latency : ℕ) (gap : Gap) (readings : List (List ℤ)) (statuses : List ℕ) (totals : Totals)
+      → ShownWritten b shown ordinal counter latency gap readings statuses totals
   pub piece-received : (s : Session) (p b : List ℕ) → PieceReceived s p b

@@ -1,4 +1,5 @@
 -- What is promised of the receiver.
 pub mod Demand1
 pub mod BuildingBlocks
+pub mod PaperRules
 pub mod Promised

@@ -1,5 +1,6 @@
--- All that is promised of the receiver, in one type, and nothing above it: `Promised`. Its one term is `promised`, in proofs/Promised.antt.
--- The rules that it speaks of are 01's, each in the `specs/` of its crate; the equation of each public call, in its contract, ties the code to them.
+-- All that is promised of the receiver beyond the equations of its public calls, in one type: `Promised`. Its one term is `promised`, in
+-- proofs/Promised.antt. The rules that it speaks of are 01's, each in the `specs/` of its crate; the equation in each call's contract ties the code to
+-- them. What the program does with its input and output no contract can say.
 use mathlib.Core.Option.{none}
 use mathlib.Core.Path.{_≡_}
 use Rattle.setup.specs.Setup.{setupNumber}
@@ -8,6 +9,7 @@ use Rattle.feeding.specs.Promises.{EveryCall, Demand2, Demand3}
 use Rattle.lines.specs.InTurn.{LinesInTurn}
 use Rattle.promises.specs.Demand1.{Demand1}
 use Rattle.promises.specs.BuildingBlocks.{BuildingBlocks}
+use Rattle.promises.specs.PaperRules.{PaperRules}
 
 -- of a setup: the datagrams of every stream (demand 2), the totals (demand 3), and the lines of pieces received in turn, which are those of the
 -- datagrams of demand 3
@@ -25,3 +27,5 @@ pub record Promised : Type 0 where
   pub each-setup : (u : Setup) → setupNumber u ≡ none → OfSetup u
   -- the enums that the calls below these answer
   pub blocks : BuildingBlocks
+  -- what the rules say that all of this is stated by
+  pub rules : PaperRules

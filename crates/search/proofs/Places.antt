@@ -1,11 +1,11 @@
 -- What the place where the scan stops tells of the scan, for an accepted setup.
-use Prim.Native.Nat.{ℕ, _+_, _≤_, _<_}
+use Prim.Native.Nat.{ℕ, _+_, _-_, _≤_, _<_}
 use mathlib.Core.Option.{none, some}
 use mathlib.Core.Path.{_≡_, refl, sym, ap, _∙_, subst}
 use mathlib.Core.Bool.{true}
 use mathlib.Core.List.{List, [], append-nil}
 use native.Mathlib.Omega.{arith}
-use lib.ListN.{length, take, drop, length-drop}
+use lib.ListN.{length, take, drop, getD, length-drop}
 use lib.Seq.{length-take-le}
 use Rattle.setup.specs.Setup.{rulingOn, lengthOf}
 use Rattle.setup.specs.declared.Setup.{Setup}
@@ -14,7 +14,7 @@ use Rattle.scan.specs.Scan.{First, ends, finds, first, Undecided as Open}
 use Rattle.scan.specs.Stream.{Begins}
 use Rattle.scan.proofs.ScanLaws.{Parted, parted-at, passedIn}
 use Rattle.scan.proofs.FrontLaws.{hands-acceptable}
-use Rattle.scan.proofs.AmongLaws.{stable, none-passed}
+use Rattle.scan.proofs.AmongLaws.{stable, none-passed, passed-decided}
 use Rattle.search.specs.declared.Place.{Place}
 use Rattle.search.specs.declared.Place.the-variants.{Complete, Undecided}
 use Rattle.search.specs.Search.{candidateOf, isDatagram, rulesOf, verdictOf, placeOf, passedBefore, sizeFound}
@@ -97,6 +97,13 @@ module _ (u : Setup) (a : rulingOn u ≡ Accepted) (p : List ℕ) where
       let f = first (verdictOf u) p in
       let m : k < passedIn (verdictOf u) f = omega (arith, passed-same f) in
       none-passed (rulesOf u) (lawful u a) p [] refl k m (omega (arith, few f refl)) (subst (λ (v : List ℕ). Begins (isDatagram u) (drop k v)) (sym (append-nil p)) B)
+
+  pub place-decided : (k : ℕ) → k < passedBefore place → candidateOf u (getD p k 0) ≤ length p - k
+  place-decided k l =
+      let f = first (verdictOf u) p in
+      let m : k < passedIn (verdictOf u) f = omega (arith, passed-same f) in
+      subst (λ (v : List ℕ). candidateOf u (getD v k 0) ≤ length v - k) (append-nil p)
+      (passed-decided (rulesOf u) (lawful u a) p [] refl k m (omega (arith, few f refl)))
 
   pub place-complete : {n : ℕ} → sizeFound place ≡ some n → (passedBefore place + n ≤ length p) × (isDatagram u (take n (drop (passedBefore place) p)) ≡ true)
   place-complete {n} e = by place refl e

@@ -15,7 +15,7 @@ use Rattle.setup.specs.declared.Row.{Row}
 use Rattle.setup.proofs.Rows.{every-row}
 
 -- the parts of each line of the table add up to the bytes before the check that 01 gives it
-abbrev EachEntry : (Entry → Type 0) → List Entry → Type 0
+abbrev pub EachEntry : (Entry → Type 0) → List Entry → Type 0
 EachEntry P [] = Unit {0}
 EachEntry P (e ∷ es) = P e × EachEntry P es
 

@@ -5,3 +5,4 @@ pub mod Layouts
 pub mod Rules
 pub mod Refusals
 pub mod Sensors
+pub mod NineLaws

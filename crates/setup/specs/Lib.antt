@@ -2,3 +2,4 @@
 pub mod Layout
 pub mod Setup
 pub mod Sensor
+pub mod AcceptedSetup
