@@ -7,4 +7,3 @@ pub mod Batches
 pub mod BatchAnswers
 pub mod OneByOne
 pub mod WholePieces
-pub mod LinesInTurn

@@ -1,4 +1,3 @@
 -- A whole piece at once.
 pub mod Lines
 pub mod PieceParts
-pub mod InTurn

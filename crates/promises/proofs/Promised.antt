@@ -5,7 +5,7 @@ use Rattle.setup.specs.Setup.{setupNumber}
 use Rattle.setup.specs.declared.Setup.{Setup}
 use Rattle.setup.proofs.Rules.{number-accepted}
 use Rattle.feeding.proofs.Demands.{demand2, demand3, every-call}
-use Rattle.lines.proofs.LinesInTurn.{lines-in-turn}
+use Rattle.promises.proofs.LinesInTurn.{lines-in-turn}
 use Rattle.promises.specs.Promised.{OfSetup, Promised}
 use Rattle.promises.proofs.Demand1.{demand1}
 use Rattle.promises.proofs.BuildingBlocks.{building-blocks}

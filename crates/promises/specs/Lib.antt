@@ -2,4 +2,5 @@
 pub mod Demand1
 pub mod BuildingBlocks
 pub mod PaperRules
+pub mod InTurn
 pub mod Promised

@@ -6,7 +6,7 @@ use mathlib.Core.Path.{_≡_}
 use Rattle.setup.specs.Setup.{setupNumber}
 use Rattle.setup.specs.declared.Setup.{Setup}
 use Rattle.feeding.specs.Promises.{EveryCall, Demand2, Demand3}
-use Rattle.lines.specs.InTurn.{LinesInTurn}
+use Rattle.promises.specs.InTurn.{LinesInTurn}
 use Rattle.promises.specs.Demand1.{Demand1}
 use Rattle.promises.specs.BuildingBlocks.{BuildingBlocks}
 use Rattle.promises.specs.PaperRules.{PaperRules}

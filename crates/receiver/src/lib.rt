@@ -8,156 +8,19 @@ ghost use Rattle.integers.specs.Buffers.{padded};
 ghost use Rattle.setup.specs.Setup.{rulingOn};
 ghost use Rattle.setup.specs.Sensor.{sensorOf};
 ghost use Rattle.setup.specs.declared.Ruling.the-variants.{Accepted};
-ghost use Rattle.motion.specs.Totals.{noAxes, totalsOf};
 ghost use Rattle.scan.specs.Scan.{first, later, ends, finds};
 ghost use Rattle.search.specs.Search.{rulesOf, verdictOf};
 ghost use Rattle.session.specs.Session.{sessionWith};
 ghost use Rattle.admission.specs.Admission.{heldBytes, pieceRuling};
-ghost use Rattle.feeding.specs.Feed.{datagramWith, noFields, noValues, noDoubles, noDatagram, refusal, feedOf};
-ghost use Rattle.feeding.specs.CallParts.{contentsWith, replyAfter, replyAtOnce, Room};
+ghost use Rattle.feeding.specs.Feed.{refusal, feedOf};
+ghost use Rattle.feeding.specs.CallParts.{replyAfter, replyAtOnce, Room};
 use admission::Admission;
-use doubles::GroupValues;
-use doubles::TotalDoubles;
-use doubles::Values;
 use feeding::Answer;
-use feeding::Datagram;
 use feeding::Reply;
-use gaps::Datagrams;
-use gaps::Gap;
 use history::History;
-use motion::Axes;
-use motion::GroupTotals;
-use motion::Total;
-use motion::Totals;
 use search::Place;
 use session::Session;
 use setup::Sensor;
-use wire::Fields;
-
-// A datagram as it comes back, of its readings and its other fields; `gap`: what lies before it, `axes`: those after it.
-fn datagram_of(
-    sensor: Sensor,
-    gap: Gap,
-    readings: [[i32; 3]; 3],
-    fields: Fields,
-    axes: Axes,
-) -> Datagram
-    ensures { λ r. ⌜ r ≡ datagramWith sensor gap (contentsWith readings fields) axes ⌝ }
-{
-    let statuses = fields.statuses;
-    let flagged = [
-        motion::flagged_channels(statuses[0]),
-        motion::flagged_channels(statuses[1]),
-        motion::flagged_channels(statuses[2]),
-    ];
-    let units = sensor.units;
-    let shifts = sensor.shifts;
-    let values = doubles::group_values(units, shifts, readings);
-    let totals = motion::totals_of(axes);
-    let doubles = doubles::total_doubles(shifts, axes);
-    let gyro = readings[0];
-    let accelerometer = readings[1];
-    let inclinometer = readings[2];
-    Datagram {
-        gyro: gyro,
-        accelerometer: accelerometer,
-        inclinometer: inclinometer,
-        fields: fields,
-        flagged: flagged,
-        values: values,
-        gap: gap,
-        totals: totals,
-        doubles: doubles,
-    }
-}
-
-// The fields where no datagram is handed out: zeros.
-fn no_fields() -> Fields
-    ensures { λ r. ⌜ r ≡ noFields ⌝ }
-{
-    Fields {
-        statuses: [0; 3],
-        gyro_temperatures: [0; 3],
-        accelerometer_temperatures: [0; 3],
-        inclinometer_temperatures: [0; 3],
-        temperature_statuses: [0; 3],
-        aux: 0,
-        aux_status: 0,
-        counter: 0,
-        latency: 0,
-    }
-}
-
-// The values of a group there: zeros in unit 0.
-fn no_values() -> Values
-    ensures { λ r. ⌜ r ≡ noValues ⌝ }
-{
-    Values::Instantaneous(0.0, 0.0, 0.0)
-}
-
-// The totals there, none of which has begun.
-fn no_totals() -> Totals
-    ensures { λ r. ⌜ r ≡ totalsOf noAxes ⌝ }
-{
-    let total = Total {
-        begun: false,
-        steps: 0,
-    };
-    let group = GroupTotals {
-        x: total,
-        y: total,
-        z: total,
-    };
-    Totals {
-        gyro: group,
-        accelerometer: group,
-        inclinometer: group,
-    }
-}
-
-// The totals there as doubles.
-fn no_doubles() -> TotalDoubles
-    ensures { λ r. ⌜ r ≡ noDoubles ⌝ }
-{
-    TotalDoubles {
-        gyro_x: 0.0,
-        gyro_y: 0.0,
-        gyro_z: 0.0,
-        accelerometer_x: 0.0,
-        accelerometer_y: 0.0,
-        accelerometer_z: 0.0,
-        inclinometer_x: 0.0,
-        inclinometer_y: 0.0,
-        inclinometer_z: 0.0,
-    }
-}
-
-// What comes back in a datagram's place where none is handed out.
-fn no_datagram() -> Datagram
-    ensures { λ r. ⌜ r ≡ noDatagram ⌝ }
-{
-    let fields = no_fields();
-    let none = no_values();
-    let values = GroupValues {
-        gyro: none,
-        accelerometer: none,
-        inclinometer: none,
-    };
-    let gap = Gap::Missed(Datagrams(0));
-    let totals = no_totals();
-    let doubles = no_doubles();
-    Datagram {
-        gyro: [0; 3],
-        accelerometer: [0; 3],
-        inclinometer: [0; 3],
-        fields: fields,
-        flagged: [0; 3],
-        values: values,
-        gap: gap,
-        totals: totals,
-        doubles: doubles,
-    }
-}
 
 // A buffer with bytes written into it from a place on.
 fn put(buffer: [u8; 128], place: usize, bytes: &[u8]) -> [u8; 128]
@@ -223,7 +86,7 @@ fn hand_out(session: Session, sensor: Sensor, passed: usize, taken: usize, d: &[
     let kept = motion::kept_groups(row, units);
     let history = history::advance(kept, before, readings, statuses, counter);
     let axes = history.axes;
-    let datagram = datagram_of(sensor, gap, readings, fields, axes);
+    let datagram = answers::datagram_of(sensor, gap, readings, fields, axes);
     let after = session_behind(session, history, passed, taken, &d[..0]);
     Reply {
         answer: Answer::Datagram,
@@ -240,7 +103,7 @@ fn hold(session: Session, passed: usize, taken: usize, undecided: &[u8]) -> Repl
 {
     let history = session.history;
     let next = session_behind(session, history, passed, taken, undecided);
-    let datagram = no_datagram();
+    let datagram = answers::no_datagram();
     Reply {
         answer: Answer::Waiting,
         taken: taken,
@@ -253,7 +116,7 @@ fn hold(session: Session, passed: usize, taken: usize, undecided: &[u8]) -> Repl
 fn refuse(session: Session, number: u8) -> Reply
     ensures { λ r. ⌜ r ≡ refusal session number ⌝ }
 {
-    let datagram = no_datagram();
+    let datagram = answers::no_datagram();
     Reply {
         answer: Answer::Refused(number),
         taken: 0,

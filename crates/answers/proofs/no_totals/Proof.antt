@@ -1,8 +1,8 @@
--- `receiver::no_totals` meets its contract. Assumes nothing.
+-- `answers::no_totals` meets its contract. Assumes nothing.
 use mathlib.Core.Path.{refl}
 use Rattle.motion.specs.Totals.{totalsOf}
-use Rattle.receiver.proofs.no_totals.Statement.{statement}
-use Rattle.receiver.proofs.no_totals.Tie as tie
+use Rattle.answers.proofs.no_totals.Statement.{statement}
+use Rattle.answers.proofs.no_totals.Tie as tie
 
 returns : tie.Need-returns
 unfolding totalsOf

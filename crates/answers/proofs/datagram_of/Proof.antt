@@ -1,11 +1,11 @@
--- `receiver::datagram_of` meets its contract. Assumes nothing.
+-- `answers::datagram_of` meets its contract. Assumes nothing.
 use mathlib.Core.Path.{_≡_}
 use lib.ListN.{length}
 use Rattle.feeding.specs.Feed.{datagramWith}
 use Rattle.feeding.proofs.CallParts.{flagged-three}
 use borrow.Author.Needs.{needs}
-use Rattle.receiver.proofs.datagram_of.Statement.{statement}
-use Rattle.receiver.proofs.datagram_of.Tie as tie
+use Rattle.answers.proofs.datagram_of.Statement.{statement}
+use Rattle.answers.proofs.datagram_of.Tie as tie
 
 three : (c : tie.Start) → length (c .args .fields .statuses) ≡ 3
 three c = search needs

@@ -1,8 +1,8 @@
--- `receiver::no_datagram` meets its contract. Assumes nothing.
+-- `answers::no_datagram` meets its contract. Assumes nothing.
 use Rattle.feeding.specs.Feed.{noDatagram}
 use borrow.Author.Needs.{needs}
-use Rattle.receiver.proofs.no_datagram.Statement.{statement}
-use Rattle.receiver.proofs.no_datagram.Tie as tie
+use Rattle.answers.proofs.no_datagram.Statement.{statement}
+use Rattle.answers.proofs.no_datagram.Tie as tie
 
 no-fields-requires : tie.Need-no-fields-requires
 no-fields-requires c κs = search needs

@@ -1,8 +1,8 @@
--- `receiver::no_values` meets its contract. Assumes nothing.
+-- `answers::no_values` meets its contract. Assumes nothing.
 use mathlib.Core.Path.{refl}
 use lib.Ieee.{ofBits}
-use Rattle.receiver.proofs.no_values.Statement.{statement}
-use Rattle.receiver.proofs.no_values.Tie as tie
+use Rattle.answers.proofs.no_values.Statement.{statement}
+use Rattle.answers.proofs.no_values.Tie as tie
 
 returns : tie.Need-returns
 unfolding ofBits

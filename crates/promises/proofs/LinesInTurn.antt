@@ -29,14 +29,14 @@ use Rattle.feeding.specs.Feed.{consumer, SessionState, stateOf, sessionOf, refu
 use Rattle.feeding.proofs.CallParts.{count-less}
 use Rattle.feeding.proofs.ContainedAt.{carried-datagrams}
 use Rattle.feeding.proofs.Demands.{demand2, demand3}
 use Rattle.lines.specs.declared.Received.{Received}
 use Rattle.lines.specs.declared.Batch.{Batch}
 use Rattle.lines.specs.Lines.{lineOf, linesAfter, foundIn, answersIn, linesIn, behind, enough, bufferBy, batchOf, batchBuffer}
-use Rattle.lines.specs.InTurn as turns
-use Rattle.lines.specs.InTurn.{linesGiven, outcomeIn, LinesRun, next, LinesInTurn}
+use Rattle.promises.specs.InTurn as turns
+use Rattle.promises.specs.InTurn.{linesGiven, outcomeIn, LinesRun, next, LinesInTurn}
 use Rattle.lines.proofs.LongestLines.{lines-enough}
 use Rattle.lines.proofs.Batches.{Way, turned-down, too-long, fitting, way, whole}
 use Rattle.lines.proofs.OneByOne.{behind-sound, run, one-by-one}
 
 -- lines of datagrams, and of those that come after them
 lines-append : (u : Setup) (n : ℕ) (os os′ : List Datagram) → linesAfter u n (os ++ os′) ≡ linesAfter u n os ++ linesAfter u (n + length os) os′

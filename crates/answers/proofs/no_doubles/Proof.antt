@@ -1,8 +1,8 @@
--- `receiver::no_doubles` meets its contract. Assumes nothing.
+-- `answers::no_doubles` meets its contract. Assumes nothing.
 use mathlib.Core.Path.{refl}
 use lib.Ieee.{ofBits}
-use Rattle.receiver.proofs.no_doubles.Statement.{statement}
-use Rattle.receiver.proofs.no_doubles.Tie as tie
+use Rattle.answers.proofs.no_doubles.Statement.{statement}
+use Rattle.answers.proofs.no_doubles.Tie as tie
 
 returns : tie.Need-returns
 unfolding ofBits
