@@ -71,7 +71,8 @@ CanBeFed u ps = (os : List Datagram) × (rs : List Report) × (t : Session) × F
 abbrev pub HandsOut : Setup → List (List ℕ) → List Datagram → Type 0
 HandsOut u ps os = (es : List (List ℕ)) → Among (isDatagram u) (streamOf u ps) es → os ≡ answersFor u es
 
--- in the answer o the double of an axis is its total over 2 ^ shift, without any rounding
+-- in the answer o the double of an axis is its total over 2 ^ shift, without any rounding: `HasValue f negative n d` says that the double f is exactly
+-- n / d, with that sign
 abbrev pub TotalExact : Setup → ℕ → ℕ → Datagram → Type 0
 TotalExact u group axis o =
     HasValue (doubleAt (o .doubles) group axis) (negative (totalAt (o .totals) group axis .steps)) (natAbs (totalAt (o .totals) group axis .steps))
@@ -116,7 +117,7 @@ pub record Zeros (o : Datagram) : Type 0 where
 
 -- a call on a session that 10 doesn't turn down, of which r comes back
 pub record CallKept (s : Session) (r : Reply) : Type 0 where
-  -- the session that comes back isn't turned down by 10 either, and is of the same setup; its array has as many bytes as every session's
+  -- the session that comes back isn't turned down by 10 either, and is of the same setup; its array keeps its 64 bytes
   pub sound : PassesTen (r .session)
   pub setup : r .session .setup ≡ s .setup
   pub long : length (s .held) ≡ 64 → length (r .session .held) ≡ 64

@@ -1,0 +1,10 @@
+-- `answers::no_fields` meets its contract. Assumes nothing.
+use mathlib.Core.Path.{refl}
+use Rattle.answers.proofs.no_fields.Statement.{statement}
+use Rattle.answers.proofs.no_fields.Tie as tie
+
+returns : tie.Need-returns
+returns c = refl
+
+pub no-fields-spec : {M : Type 1} → statement M
+no-fields-spec = tie.close (tie.spec returns)
