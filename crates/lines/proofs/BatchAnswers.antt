@@ -32,11 +32,15 @@ module _ (s : Session) (p b : List ℕ) where
   refused-batch e = ap (λ (o : Option ℕ). batchWith (rulingWith o) s p) e
 
   pub batch-refused :
-      {n : ℕ} → firstNumber (batchRules s p (length b)) ≡ some n → (batchOf s p (length b) .session ≡ s) × (batchBuffer s p b ≡ b)
+      {n : ℕ} → firstNumber (batchRules s p (length b)) ≡ some n
+      → (batchOf s p (length b) .session ≡ s) × (receivedBytes (batchOf s p (length b) .answer) ≡ 0) × (batchBuffer s p b ≡ b)
   unfolding batchBuffer
   batch-refused e =
-      let r = refused-batch e in
-      (ap (λ (x : Batch). x .session) r, ap (λ (x : Batch). bufferBy (x .answer) (linesIn s p) b) r)
+      let r = refused-batch e in (
+        ap (λ (x : Batch). x .session) r,
+        ap (λ (x : Batch). receivedBytes (x .answer)) r,
+        ap (λ (x : Batch). bufferBy (x .answer) (linesIn s p) b) r,
+      )
 
   -- else the lines stand at the front, which has room for them
   written-batch :

@@ -120,9 +120,10 @@ pub record PieceReceived (s : Session) (p b : List ℕ) : Type 0 where
   -- the first of 10 to 12 and 14 that applies refuses it
   pub number : receivedNumber (batchOf s p (length b) .answer) ≡ firstNumber (batchRules s p (length b))
   pub numbers : {n : ℕ} → receivedNumber (batchOf s p (length b) .answer) ≡ some n → Between 10 12 n ⊎ (n ≡ 14)
-  -- then the session comes back as given and nothing is written
+  -- then the session comes back as given, no bytes are told and nothing is written
   pub refused :
-      {n : ℕ} → receivedNumber (batchOf s p (length b) .answer) ≡ some n → (batchOf s p (length b) .session ≡ s) × (batchBuffer s p b ≡ b)
+      {n : ℕ} → receivedNumber (batchOf s p (length b) .answer) ≡ some n
+      → (batchOf s p (length b) .session ≡ s) × (receivedBytes (batchOf s p (length b) .answer) ≡ 0) × (batchBuffer s p b ≡ b)
   -- else the lines stand at the front, whole, and every later byte is as it was; the number of their bytes comes back
   pub written :
       receivedNumber (batchOf s p (length b) .answer) ≡ none
