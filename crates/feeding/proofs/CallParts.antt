@@ -7,8 +7,9 @@ use native.Mathlib.Nat.{mul-le-mul-right}
 use native.Mathlib.Decide.{decLe}
 use native.Mathlib.Omega.{arith}
 use borrow.Author.Tests.{lt-ltb, le-ltb, lt-leb, le-leb}
-use lib.ListN.{length, getD}
+use lib.ListN.{length, getD, replicate, length-append, length-replicate}
 use Rattle.setup.specs.Setup.{lengthOf}
+use Rattle.setup.specs.declared.Setup.{Setup}
 use Rattle.setup.specs.declared.Ruling.{Ruling}
 use Rattle.setup.specs.declared.Ruling.the-variants.{Refused}
 use Rattle.setup.proofs.Refusals.{accepted-length}
@@ -24,8 +25,8 @@ use Rattle.search.specs.Search.{limitsOf, rulesOf}
 use Rattle.search.proofs.Datagrams.{lawful}
 use Rattle.admission.specs.Admission.{heldBytes, isSound, pieceRuling}
 use Rattle.session.specs.declared.Session.{Session}
-use Rattle.admission.proofs.Soundness.{Facts}
-use Rattle.feeding.specs.Feed.{consumer, stateOf, replyBy, replyOf, refusal, feedBy, feedOf}
+use Rattle.admission.proofs.Soundness.{Facts, sound-facts}
+use Rattle.feeding.specs.Feed.{consumer, SessionState, stateOf, sessionOf, replyBy, replyOf, refusal, feedBy, feedOf}
 use Rattle.feeding.proofs.Refinement.{count-held}
 use Rattle.feeding.specs.CallParts.{contentsWith, replyAfter, replyAtOnce, Room}
 
@@ -79,6 +80,19 @@ module _ (s : Session) (f : Facts s) where
         passed = omega (arith, f .sum, f .most);
         fed = omega (arith, f .most);
       }
+
+-- the held bytes and the zeros behind them fill the array
+pub held-whole : (u : Setup) (t : SessionState) → isSound (sessionOf u t) ≡ true → length (sessionOf u t .held) ≡ 64
+held-whole u t e =
+    let F = sound-facts (sessionOf u t) e in
+    let n = 64 - length (t .scan .held) in
+    omega (
+      arith,
+      length-append (t .scan .held) (replicate n 0),
+      length-replicate {A = ℕ} n 0,
+      count-less (sessionOf u t) F,
+      accepted-length u (F .accepted) .1,
+    )
 
 -- ---- a call by its case
 

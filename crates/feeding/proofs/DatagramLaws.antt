@@ -42,8 +42,8 @@ module _ (u : Setup) (ok : rulingOn u ≡ Accepted) (h : History) (d : List ℕ)
   abbrev answer : Datagram
   answer = tells (consumer u) h d
 
-  abbrev axisThen : ℕ → ℕ → Axis
-  axisThen group axis = axisAt (steps (consumer u) h d .axes) group axis
+  abbrev axisBehind : ℕ → ℕ → Axis
+  axisBehind group axis = axisAt (steps (consumer u) h d .axes) group axis
 
   pub contained-told : Contained u (awaitsFirst h) (h .previous) d (tells (consumer u) h d)
   contained-told =
@@ -56,11 +56,11 @@ module _ (u : Setup) (ok : rulingOn u ≡ Accepted) (h : History) (d : List ℕ)
       })
 
   module _ (group axis : ℕ) (g : group < 3) (k : axis < 3) where
-    pub total-told : totalAt (answer .totals) group axis ≡ totalOf (axisThen group axis)
+    pub total-told : totalAt (answer .totals) group axis ≡ totalOf (axisBehind group axis)
     unfolding tell datagramWith
     total-told = total-at (steps (consumer u) h d .axes) group axis g k
 
-    double-told : doubleAt (answer .doubles) group axis ≡ totalDouble (axisThen group axis) (shiftIn (sensorOf u .shifts) group)
+    double-told : doubleAt (answer .doubles) group axis ≡ totalDouble (axisBehind group axis) (shiftIn (sensorOf u .shifts) group)
     unfolding tell datagramWith
     double-told = double-at (sensorOf u .shifts) (steps (consumer u) h d .axes) group axis g k
 
@@ -68,9 +68,9 @@ module _ (u : Setup) (ok : rulingOn u ≡ Accepted) (h : History) (d : List ℕ)
     unfolding datagramWith
     values-told = ap (λ (o : Datagram). valuesFor (o .values) group) (told-datagram u ok (awaitsFirst h) h d)
 
-    double-exact : natAbs (axisThen group axis .total) ≤ 2 ^ 53 → TotalExact u group axis answer
+    double-exact : natAbs (axisBehind group axis .total) ≤ 2 ^ 53 → TotalExact u group axis answer
     double-exact small =
-        let x = axisThen group axis in
+        let x = axisBehind group axis in
         subst (λ (f : Float). HasValue f (negative (totalAt (answer .totals) group axis .steps)) (natAbs (totalAt (answer .totals) group axis .steps)) (2 ^ shiftOf u group)) (sym double-told)
         (subst (λ (z : ℤ). HasValue (totalDouble x (shiftIn (sensorOf u .shifts) group)) (negative z) (natAbs z) (2 ^ shiftOf u group))
         (sym (ap (λ (y : Total). y .steps) total-told))
@@ -81,7 +81,7 @@ module _ (u : Setup) (ok : rulingOn u ≡ Accepted) (h : History) (d : List ℕ)
         let b = datagram-parts u d a .0 in
         omega (arith, abs-of-range (sighting u group axis d .reading) (fields-fit (u .identifier) d b .readings group axis))
 
-    pub exact-told : isDatagram u d ≡ true → natAbs (axisThen group axis .total) ≤ 2 ^ 53 → Exact u d (tells (consumer u) h d) group axis
+    pub exact-told : isDatagram u d ≡ true → natAbs (axisBehind group axis .total) ≤ 2 ^ 53 → Exact u d (tells (consumer u) h d) group axis
     exact-told a small =
         record {
           unit = ap unitNumberIn values-told ∙ accepted-unit u ok (fieldsOf (u .identifier) d .readings) group g;

@@ -26,13 +26,13 @@ use Rattle.scan.specs.Calls as calls
 use Rattle.scan.specs.Calls.{Report}
 use Rattle.scan.specs.Stream.{joined, Among, Bare, NoTen}
 use Rattle.scan.specs.Carry.{steps, carriedAfter, Delivered}
-use Rattle.scan.proofs.AmongLaws.{scan-among, among-scan}
+use Rattle.scan.proofs.AmongLaws.{among-scan}
 use Rattle.scan.proofs.CarryLaws.{told-at, length-told, among-each, joined-least}
 use Rattle.scan.proofs.RunLaws.{ready, always-run, always-delivered, run-one, fresh-safe}
 use Rattle.scan.proofs.StreamLaws.{every-stream, reports-no-ten}
 use Rattle.scan.proofs.OneLength.{joined-length, scan-bare}
 use Rattle.search.specs.Search.{isDatagram, limitsOf, rulesOf, verdictOf}
-use Rattle.search.proofs.Datagrams.{datagram-length, datagram-least, lawful, prompt}
+use Rattle.search.proofs.Datagrams.{datagram-length, datagram-least, lawful, prompt, among-found}
 use Rattle.motion.specs.Totals.{noAxis}
 use Rattle.history.specs.History.{noHistory}
 use Rattle.history.specs.declared.History.{History}
@@ -301,7 +301,7 @@ module _ (u : Setup) (ok : rulingOn u ≡ Accepted) where
         parted =
             λ v. (
               scan (verdictOf u) v .datagrams,
-              scan-among (rulesOf u) (lawful u ok) v (bare-end v),
+              among-found u ok v,
               λ ds a. among-scan (rulesOf u) (lawful u ok) a (bare-end v),
             );
         handed-out = λ c es a. answers c es a;

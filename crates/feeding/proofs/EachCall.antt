@@ -1,26 +1,24 @@
 -- One call of feed: the session that it returns, and what is refused.
 -- Assumes nothing.
-use Prim.Native.Nat.{ℕ, _+_, _-_, _*_, _≤_}
+use Prim.Native.Nat.{ℕ, _+_, _*_, _≤_}
 use mathlib.Core.Path.{_≡_, refl, sym, ap, _∙_, subst}
 use mathlib.Core.Bool.{true}
 use mathlib.Core.List.{List}
 use mathlib.Core.Option.{none}
 use native.Mathlib.Nat.{add-zero}
 use native.Mathlib.Omega.{arith}
-use lib.ListN.{length, replicate, length-append, length-replicate}
+use lib.ListN.{length}
 use Rattle.setup.specs.Setup.{rulingNumber, rulingOn, lengthOf}
 use Rattle.setup.specs.declared.Setup.{Setup}
 use Rattle.setup.specs.declared.Ruling as ruling
 use Rattle.setup.specs.declared.Ruling.{Ruling}
 use Rattle.setup.specs.declared.Ruling.the-variants.{Accepted}
-use Rattle.setup.proofs.Refusals.{accepted-length}
 use Rattle.scan.specs.Calls as calls
 use Rattle.scan.specs.Calls.{State, Fed}
 use Rattle.scan.specs.Carry.{carrying, feedSession}
 use Rattle.scan.proofs.CallsLaws.{feed-made, no-refusal}
 use Rattle.scan.proofs.CarryLaws.{feed-fed, reply-refused}
 use Rattle.search.specs.Search.{limitsOf, rulesOf, verdictOf}
-use Rattle.search.proofs.Datagrams.{lawful}
 use Rattle.admission.specs.Admission.{isSound, pieceNumber, pieceRuling}
 use Rattle.session.specs.declared.Session.{Session}
 use Rattle.feeding.specs.declared.Datagram.{Datagram}
@@ -33,7 +31,7 @@ use Rattle.admission.proofs.Soundness.{sound-facts}
 use Rattle.admission.proofs.PieceRulings.{number-told}
 use Rattle.admission.proofs.TenLaws.{sound-ten}
 use Rattle.feeding.proofs.Refinement.{SafeOf, state-safe, session-sound}
-use Rattle.feeding.proofs.CallParts.{fed-by}
+use Rattle.feeding.proofs.CallParts.{held-whole, fed-by}
 use Rattle.feeding.proofs.Agreement.{stateCall, on-state, call-safe}
 
 -- ---- a call that is neither refused by 10 nor by 11 nor by 12
@@ -120,10 +118,7 @@ module _ (s : Session) (e : isSound s ≡ true) where
     sound-then = session-sound (s .setup) ok (made .next) safe-then
 
     long-then : length (sessionOf (s .setup) (made .next) .held) ≡ 64
-    long-then =
-        let l = made .next .scan .held in
-        let n = lawful (s .setup) ok .holds .shorter l (safe-then .scan .ruled) in
-        omega (arith, length-append l (replicate (64 - length l) 0), length-replicate {A = ℕ} (64 - length l) 0, accepted-length (s .setup) ok .1)
+    long-then = held-whole (s .setup) (made .next) sound-then
 
     kept-of : (a : calls.Answer Datagram) → made .answer ≡ a → CallKept s (replyBy s a (made .taken) (made .next))
     kept-of (calls.Answer.datagram o) q = kept-by (replyBy s (calls.Answer.datagram o) (made .taken) (made .next)) sound-then refl (λ x. long-then) grown-by

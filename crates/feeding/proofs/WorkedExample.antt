@@ -27,10 +27,8 @@ use Rattle.scan.specs.Front.{front}
 use Rattle.scan.specs.Calls.{Report, takenWhole, turnedDown}
 use Rattle.scan.specs.Carry.{told}
 use Rattle.scan.specs.Stream.{outcome, reports, stream, Among}
-use Rattle.scan.proofs.AmongLaws.{scan-among}
-use Rattle.scan.proofs.OneLength.{scan-bare}
-use Rattle.search.specs.Search.{isDatagram, limitsOf, rulesOf, verdictOf}
-use Rattle.search.proofs.Datagrams.{lawful, prompt}
+use Rattle.search.specs.Search.{isDatagram, limitsOf, verdictOf}
+use Rattle.search.proofs.Datagrams.{among-found}
 use Rattle.history.specs.History.{historyNext}
 use Rattle.session.specs.declared.Session.{Session}
 use Rattle.feeding.specs.declared.Datagram.{Datagram}
@@ -86,10 +84,8 @@ scan-example = refl
 
 among-example : Among (isDatagram example) (streamOf example pieces) datagrams
 among-example =
-    let R = rulesOf example in
-    let M = lawful example accepted-example in
     let v = streamOf example pieces in
-    subst (Among (isDatagram example) v) scan-example (scan-among R M v (scan-bare R M (prompt example accepted-example) v))
+    subst (Among (isDatagram example) v) scan-example (among-found example accepted-example v)
 
 -- 1,000 fine units to one output step: T0 = 8388600123 and T1 = 8388616999
 abbrev angles : List ℤ

@@ -32,13 +32,14 @@ use Rattle.feeding.proofs.BySetup.{told-datagram}
 use Rattle.feeding.proofs.Refinement.{count-held}
 use Rattle.feeding.proofs.CallParts.{count-less}
 use Rattle.feeding.proofs.OneLength.{fed-at-once}
-use Rattle.lines.specs.declared.Received.the-variants.{Lines}
-use Rattle.lines.specs.declared.Batch.{Batch}
-use Rattle.lines.specs.Lines.{lineOf, foundIn, roomFor}
-use Rattle.lines.specs.PieceParts.{startOf, nextLine, textOf, batchBy, Ready, scanAt, Answered, Permitted}
-use Rattle.lines.proofs.NextLines.{right-next, line-inside, line-short, text-none, text-more}
+use Rattle.whole_piece.specs.declared.Received.the-variants.{Lines}
+use Rattle.whole_piece.specs.declared.Batch.{Batch}
+use Rattle.whole_piece.specs.Lines.{lineOf, foundIn, roomFor}
+use Rattle.whole_piece.specs.NextLines.{nextLine, textOf}
+use Rattle.lines.specs.PieceParts.{startOf, batchBy, Ready, scanAt, Answered, Permitted}
+use Rattle.whole_piece.proofs.NextLines.{few-of, right-next, line-inside, line-short, text-none, text-more}
 use Rattle.integers.proofs.Buffers.{sets-append}
-use Rattle.lines.proofs.LoopInvariant.{scan-complete, scan-open, few-of}
+use Rattle.lines.proofs.LoopInvariant.{scan-complete, scan-open}
 
 module _ (s : Session) (p : List ℕ) (room : ℕ) (a : Permitted s (length p) room) where
   abbrev setup : Setup

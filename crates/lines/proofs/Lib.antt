@@ -1,9 +1,4 @@
--- Laws of the lines of a piece.
-pub mod NextLines
+-- Laws of the functions that write the lines of a piece.
 pub mod LoopInvariant
-pub mod LongestLines
 pub mod HeldFirst
-pub mod Batches
-pub mod BatchAnswers
-pub mod OneByOne
-pub mod WholePieces
+pub mod Answered

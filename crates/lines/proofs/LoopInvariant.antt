@@ -1,9 +1,9 @@
 -- The invariant of the loop over a piece: what each datagram leaves, and what there is at the end. Assumes nothing.
-use Prim.Native.Nat.{ℕ, _+_, _-_, _*_, _^_, _≤_, _<_}
+use Prim.Native.Nat.{ℕ, _+_, _-_, _*_, _≤_}
 use mathlib.Core.Path.{_≡_, refl, sym, ap, _∙_, subst}
 use mathlib.Core.Bool.{true}
 use mathlib.Core.List.{List, [], _++_}
-use native.Mathlib.Nat.{add-zero, mul-add, mul-one, mul-le-mul-right}
+use native.Mathlib.Nat.{add-zero, mul-add, mul-one}
 use native.Mathlib.Omega.{arith}
 use lib.ListN.{length, take, drop, length-append, length-drop, drop-of-length-le}
 use lib.Seq.{sets, length-sets, length-take-le, take-all, drop-drop}
@@ -18,7 +18,7 @@ use Rattle.scan.specs.Scan.{Scanned, holding, passing, handing, first, scan}
 use Rattle.scan.specs.Carry.{steps, carriedAfter}
 use Rattle.scan.proofs.ScanLaws.{scan-first, unrolled}
 use Rattle.scan.proofs.AmongLaws.{stable}
-use Rattle.search.specs.Search.{isDatagram, limitsOf, rulesOf, verdictOf}
+use Rattle.search.specs.Search.{isDatagram, rulesOf, verdictOf}
 use Rattle.search.proofs.Datagrams.{lawful}
 use Rattle.integers.proofs.Buffers.{to-end, sets-append}
 use Rattle.search.proofs.Places.{IsComplete, IsUndecided, complete-length}
@@ -27,10 +27,11 @@ use Rattle.admission.proofs.Soundness.{sound-facts}
 use Rattle.admission.proofs.PieceRulings.{admitted}
 use Rattle.feeding.specs.Feed.{consumer, sessionOf}
 use Rattle.feeding.proofs.BySetup.{after-datagram}
-use Rattle.lines.specs.declared.Received.the-variants.{Lines}
+use Rattle.whole_piece.specs.declared.Received.the-variants.{Lines}
 use Rattle.lines.specs.declared.Progress.{Progress}
-use Rattle.lines.specs.PieceParts.{startOf, nextLine, textOf, nextOf, stopped, behindBy, batchBy, Ready, scanAt, Finished, Answered, Permitted}
-use Rattle.lines.proofs.NextLines.{right-next, line-short, text-none, text-more}
+use Rattle.whole_piece.specs.NextLines.{nextLine, textOf}
+use Rattle.lines.specs.PieceParts.{startOf, nextOf, stopped, behindBy, batchBy, Ready, scanAt, Finished, Answered, Permitted}
+use Rattle.whole_piece.proofs.NextLines.{few-of, right-next, line-short, text-none, text-more}
 
 -- ---- the scan by what find tells
 
@@ -44,10 +45,6 @@ module _ (u : Setup) (a : rulingOn u ≡ Accepted) (v : List ℕ) (n : ℕ) wher
   scan-open w = scan-first (verdictOf u) (stable (rulesOf u) (lawful u a)) v ∙ ap (unrolled (verdictOf u)) (w .scan)
 
 -- ---- counts that stay in range
-
--- few datagrams, of 18 bytes or more each
-pub few-of : (u : Setup) → rulingOn u ≡ Accepted → (n rest : ℕ) → lengthOf u * n + rest ≤ limitsOf u .session → n < 2 ^ 30
-few-of u a n rest h = omega (arith, mul-le-mul-right n (accepted-length u a .0))
 
 -- room for fewer bytes
 pub ready-less : (u : Setup) (x : Progress) (end less room : ℕ) → x .at ≤ less → less ≤ end → Ready u x end room → Ready u x less room

@@ -1,3 +1,2 @@
--- A whole piece at once.
-pub mod Lines
+-- A whole piece at once, by the functions that write its lines.
 pub mod PieceParts

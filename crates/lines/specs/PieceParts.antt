@@ -1,5 +1,5 @@
 -- A helper of proofs, no rule of 01: what the functions that write the lines of a piece hand on from one to the next.
-use Prim.Native.Nat.{ℕ, suc, _+_, _-_, _*_, _≤_, _<_}
+use Prim.Native.Nat.{ℕ, _+_, _-_, _*_, _≤_, _<_}
 use mathlib.Core.Bool.{true}
 use mathlib.Core.List.{List}
 use mathlib.Core.Path.{_≡_}
@@ -13,16 +13,16 @@ use Rattle.text_line.specs.ShownLine.{longestLine}
 use Rattle.text.specs.TextLine.{shownBy}
 use Rattle.scan.specs.Scan.{Scanned, scan}
 use Rattle.scan.specs.Stream.{joined}
-use Rattle.scan.specs.Carry.{steps, tells, told, carriedAfter}
+use Rattle.scan.specs.Carry.{steps, carriedAfter}
 use Rattle.search.specs.Search.{limitsOf, rulesOf, verdictOf}
 use Rattle.history.specs.History.{greatestCount}
 use Rattle.admission.specs.Admission.{axesRight, pieceRuling}
-use Rattle.history.specs.declared.History.{History}
 use Rattle.session.specs.declared.Session.{Session}
 use Rattle.feeding.specs.Feed.{consumer, SessionState, stateOf, sessionOf}
-use Rattle.lines.specs.Lines.{lineOf, linesAfter, roomFor}
-use Rattle.lines.specs.declared.Received.the-variants.{Lines}
-use Rattle.lines.specs.declared.Batch.{Batch}
+use Rattle.whole_piece.specs.Lines.{roomFor}
+use Rattle.whole_piece.specs.NextLines.{nextLine, textOf}
+use Rattle.whole_piece.specs.declared.Received.the-variants.{Lines}
+use Rattle.whole_piece.specs.declared.Batch.{Batch}
 use Rattle.lines.specs.declared.LookedUp.{LookedUp}
 use Rattle.lines.specs.declared.Progress.{Progress}
 
@@ -33,13 +33,6 @@ lookedUp u = record { setup = u; sensor = sensorOf u; shown = shownBy u }
 -- what a session has at a place in a piece, so many bytes being written
 abbrev pub startOf : Session → ℕ → ℕ → Progress
 startOf s at used = record { history = s .history; passed = s .passed; at = at; used = used }
-
--- the line of the next datagram, and the lines of all that a scan gives
-unfoldable pub nextLine : Setup → History → List ℕ → List ℕ
-nextLine u k d = lineOf u (suc (k .datagrams .0)) (tells (consumer u) k d)
-
-unfoldable pub textOf : Setup → History → Scanned → List ℕ
-textOf u k g = linesAfter u (k .datagrams .0) (told (consumer u) k (g .datagrams))
 
 -- behind n bytes passed over and the datagram d
 unfoldable pub nextOf : Setup → Progress → ℕ → List ℕ → Progress

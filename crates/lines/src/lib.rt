@@ -14,8 +14,9 @@ ghost use Rattle.scan.specs.Scan.{first};
 ghost use Rattle.search.specs.Search.{isDatagram, limitsOf, verdictOf, placeOf};
 ghost use Rattle.admission.specs.Admission.{pieceRuling};
 ghost use Rattle.history.specs.History.{greatestCount};
-ghost use Rattle.lines.specs.Lines.{lineBy, foundIn, roomFor, enough, refusing, batchOf, batchBuffer};
-ghost use Rattle.lines.specs.PieceParts.{lookedUp, nextLine, startOf, nextOf, stopped, scanAt, Ready, Finished, Answered, Permitted};
+ghost use Rattle.whole_piece.specs.Lines.{lineBy, foundIn, roomFor, enough, refusing, batchOf, batchBuffer};
+ghost use Rattle.whole_piece.specs.NextLines.{nextLine};
+ghost use Rattle.lines.specs.PieceParts.{lookedUp, startOf, nextOf, stopped, scanAt, Ready, Finished, Answered, Permitted};
 use admission::Admission;
 use feeding::Answer;
 use feeding::Datagram;
@@ -29,21 +30,11 @@ use setup::Sensor;
 use setup::Setup;
 use text_line::Shown;
 use text_line::Written;
+use whole_piece::Batch;
+use whole_piece::Received;
 
 // A buffer of so many bytes is long enough for the lines of any piece.
 const ENOUGH: usize = 72000;
-
-// What came of a piece: so many bytes of lines stand at the front of the buffer, or a number refused it.
-pub enum Received {
-    Lines(usize),
-    Refused(u8),
-}
-
-// With the session that comes back.
-pub struct Batch {
-    pub answer: Received,
-    pub session: Session,
-}
 
 // What is looked up once for a piece: what the setup says of its sensor, and which fields of a line it shows.
 struct LookedUp {

@@ -1,5 +1,5 @@
--- A helper of proofs, no rule of 01: what stands in a record of a call, by the places that src/main.rt gives. Numbers have their least significant byte first; bytes behind the
--- end of the record are 0.
+-- A helper of proofs, no rule of 01: what stands in a record of a call, by the places that src/main.rt gives. Numbers have their least
+-- significant byte first; bytes behind the end of the record are 0.
 use Prim.Native.Nat.{ℕ, _+_, _*_}
 use mathlib.Core.Bool.{Bool, cond}
 use mathlib.Core.List.{List, [], _∷_}

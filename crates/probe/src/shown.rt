@@ -7,7 +7,6 @@ use feeding::Answer;
 use feeding::Datagram;
 use gaps::Gap;
 use libc::STDOUT_FILENO;
-use lines::Received;
 use motion::Axes;
 use motion::Axis;
 use motion::GroupAxes;
@@ -18,6 +17,7 @@ use session::Session;
 use setup::Ruling;
 use setup::Setup;
 use text_line::Written;
+use whole_piece::Received;
 use wire::Fields;
 
 pub(crate) fn put_text(text: &[u8]) {

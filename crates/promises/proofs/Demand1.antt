@@ -1,11 +1,11 @@
 -- Demand 1: what comes back of lent memory, and which numbers can come out. Assumes nothing.
-use mathlib.Core.List.{List, [], _∷_, _++_}
+use mathlib.Core.List.{List, [], _∷_}
 use mathlib.Core.Option.{none}
 use mathlib.Core.Path.{_≡_, refl, sym, ap, _∙_, subst}
 use native.Mathlib.Omega.{arith}
 use Prim.Native.Nat.{ℕ}
 use lib.IntN.{ℤ}
-use lib.ListN.{length, drop}
+use lib.ListN.{length}
 use Rattle.setup.specs.Setup.{rulingNumber, zeroSetup}
 use Rattle.setup.specs.declared.Setup.{Setup}
 use Rattle.setup.proofs.Rules.{none-accepted, some-refused, number-accepted, number-refused, accepted-number, ruling-number}
@@ -16,24 +16,24 @@ use Rattle.gaps.specs.declared.Gap.{Gap}
 use Rattle.motion.specs.declared.Totals.{Totals}
 use Rattle.motion.proofs.NineAxes.{none-at}
 use Rattle.text_line.specs.declared.Shown.{Shown}
-use Rattle.text_line.specs.ShownLine.{shownText}
-use Rattle.text_line.proofs.ShownLaws.{shown-numbers, shown-keeps, shown-tells, shown-front}
+use Rattle.text_line.specs.ShownLine.{writtenNumber}
+use Rattle.text_line.proofs.ShownLaws.{shown-number, shown-numbers, shown-keeps, shown-whole, shown-enough, shown-short}
 use Rattle.scan.specs.Calls.{Report}
-use Rattle.session.specs.Session.{freshOf}
+use Rattle.session.specs.Session.{freshOf, opening}
 use Rattle.session.specs.declared.Session.{Session}
 use Rattle.session.specs.declared.Opened.{Opened}
-use Rattle.session.proofs.Opening.{opened, refused-opening, opening-ruling}
+use Rattle.session.proofs.Opening.{opened, refused-opening, opening-ruling, opening-numbers}
 use Rattle.admission.proofs.PieceRulings as piece
 use Rattle.feeding.specs.declared.Datagram.{Datagram}
 use Rattle.feeding.specs.Feed.{Calls}
 use Rattle.feeding.proofs.CallParts.{fed-refused}
 use Rattle.feeding.proofs.EachCall.{fed-number}
 use Rattle.text.proofs.LineLaws as text
-use Rattle.lines.specs.Lines.{receivedNumber, linesAfter, linesIn}
-use Rattle.lines.specs.declared.Batch.{Batch}
-use Rattle.lines.proofs.Batches.{fourteen, fitting-lines, Way, turned-down, too-long, fitting, way, batch-numbers}
-use Rattle.lines.proofs.OneByOne.{run, one-by-one}
-use Rattle.lines.proofs.BatchAnswers.{batch-number, batch-refused, batch-written}
+use Rattle.whole_piece.specs.Lines.{receivedNumber, linesAfter, linesIn}
+use Rattle.whole_piece.specs.declared.Batch.{Batch}
+use Rattle.whole_piece.proofs.Batches.{fourteen, fitting-lines, Way, turned-down, too-long, fitting, way, batch-numbers}
+use Rattle.whole_piece.proofs.OneByOne.{run, one-by-one}
+use Rattle.whole_piece.proofs.BatchAnswers.{batch-number, batch-refused, batch-written}
 use Rattle.promises.specs.Demand1.{LineRead, SetupJudged, IsFresh, SessionOpened, PieceFed, LineWritten, ShownWritten, PieceReceived, Demand1}
 
 line-read : (l : List ℕ) → LineRead l
@@ -66,6 +66,7 @@ session-opened : (u : Setup) → SessionOpened u
 session-opened u =
     record {
       number = ap rulingNumber (opening-ruling u) ∙ ruling-number u;
+      numbers = λ e. opening-numbers u (some-refused (opening u .answer) e);
       refused = λ e. subst (IsFresh zeroSetup) (sym (ap (λ (o : Opened). o .session) (refused-opening u (number-refused u e)))) (is-fresh zeroSetup);
       accepted = λ e. subst (IsFresh u) (sym (ap (λ (o : Opened). o .session) (opened u (number-accepted u e)))) (is-fresh u);
     }
@@ -128,15 +129,12 @@ module _ (b : List ℕ) (shown : Shown) (ordinal counter latency : ℕ) (gap : G
   shown-written : ShownWritten b shown ordinal counter latency gap readings statuses totals
   shown-written =
       record {
+        number = shown-number b shown ordinal counter latency gap readings statuses totals;
         numbers = λ e. shown-numbers b shown ordinal counter latency gap readings statuses totals e;
         refused = λ e. shown-keeps b shown ordinal counter latency gap readings statuses totals e;
-        written =
-            λ e.
-            let n = shown-tells b shown ordinal counter latency gap readings statuses totals e .0 in (
-              n,
-              shown-front b shown ordinal counter latency gap readings statuses totals e
-                  ∙ ap (λ (k : ℕ). shownText shown ordinal counter latency gap readings statuses totals ++ drop k b) n,
-            );
+        written = λ e. shown-whole b shown ordinal counter latency gap readings statuses totals e;
+        fits = λ h l. ap writtenNumber (shown-enough b shown ordinal counter latency gap readings statuses totals h l);
+        too-long = λ h l. ap writtenNumber (shown-short b shown ordinal counter latency gap readings statuses totals h l);
       }
 
 pub demand1 : Demand1

@@ -1,22 +1,18 @@
 -- Pieces given in turn to receive_lines give the lines of the datagrams that feeding them hands out. Assumes nothing.
-use Prim.Native.Nat.{ℕ, suc, _+_, _-_, _≤_}
+use Prim.Native.Nat.{ℕ, _≤_}
 use mathlib.Core.Path.{_≡_, refl, sym, ap, _∙_, subst}
 use mathlib.Core.Bool.{true}
-use mathlib.Core.List.{List, [], _∷_, _++_, map, append-assoc}
-use native.Mathlib.Nat.{add-zero}
+use mathlib.Core.List.{List, [], _∷_, _++_, map}
 use native.Mathlib.Omega.{arith}
-use lib.ListN.{length, drop, replicate, length-append, length-replicate}
+use lib.ListN.{length, drop, replicate, length-replicate}
 use lib.Seq.{take-at}
 use Rattle.setup.specs.Setup.{rulingOn}
 use Rattle.setup.specs.declared.Setup.{Setup}
 use Rattle.setup.specs.declared.Ruling.{Ruling}
 use Rattle.setup.specs.declared.Ruling.the-variants.{Accepted}
-use Rattle.setup.proofs.Refusals.{accepted-length}
 use Rattle.scan.specs.Calls.{Outcome, takenWhole, turnedDown, Report, none, refuse}
-use Rattle.scan.proofs.CarryLaws.{length-told}
 use Rattle.scan.proofs.RunLaws.{run-append}
 use Rattle.admission.specs.Admission.{isSound, pieceRuling}
-use Rattle.admission.proofs.Soundness.{sound-facts}
 use Rattle.admission.proofs.PieceRulings.{admitted}
 use Rattle.admission.proofs.TenLaws.{ten-sound}
 use Rattle.session.specs.Session.{freshOf, opening}
@@ -25,47 +21,24 @@ use Rattle.session.specs.declared.Opened.{Opened}
 use Rattle.session.proofs.Opening.{opened}
 use Rattle.feeding.specs.declared.Datagram.{Datagram}
 use Rattle.feeding.specs.declared.Reply.{Reply}
-use Rattle.feeding.specs.Feed.{consumer, SessionState, stateOf, sessionOf, refusal, feedBy, feedOf, callBy, call, Calls}
-use Rattle.feeding.proofs.CallParts.{count-less}
-use Rattle.feeding.proofs.ContainedAt.{carried-datagrams}
+use Rattle.feeding.specs.Feed.{refusal, feedBy, feedOf, callBy, call, Calls}
+use Rattle.feeding.proofs.CallParts.{held-whole}
 use Rattle.feeding.proofs.Demands.{demand2, demand3}
-use Rattle.lines.specs.declared.Received.{Received}
-use Rattle.lines.specs.declared.Batch.{Batch}
-use Rattle.lines.specs.Lines.{lineOf, linesAfter, foundIn, answersIn, linesIn, behind, enough, bufferBy, batchOf, batchBuffer}
+use Rattle.whole_piece.specs.declared.Received.{Received}
+use Rattle.whole_piece.specs.declared.Batch.{Batch}
+use Rattle.whole_piece.specs.Lines.{linesAfter, answersIn, linesIn, behind, enough, bufferBy, batchOf, batchBuffer}
 use Rattle.promises.specs.InTurn as turns
 use Rattle.promises.specs.InTurn.{linesGiven, outcomeIn, LinesRun, next, LinesInTurn}
-use Rattle.lines.proofs.LongestLines.{lines-enough}
-use Rattle.lines.proofs.Batches.{Way, turned-down, too-long, fitting, way, whole}
-use Rattle.lines.proofs.OneByOne.{behind-sound, run, one-by-one}
-
--- lines of datagrams, and of those that come after them
-lines-append : (u : Setup) (n : ℕ) (os os′ : List Datagram) → linesAfter u n (os ++ os′) ≡ linesAfter u n os ++ linesAfter u (n + length os) os′
-unfolding linesAfter
-lines-append u n [] os′ = ap (λ (k : ℕ). linesAfter u k os′) (sym (add-zero n))
-lines-append u n (o ∷ os) os′ =
-    let line = lineOf u (suc n) o in
-    let behind-it : suc n + length os ≡ n + suc (length os) = omega arith in
-    ap (λ (l : List ℕ). line ++ l) (lines-append u (suc n) os os′)
-    ∙ sym (append-assoc line (linesAfter u (suc n) os) (linesAfter u (suc n + length os) os′))
-    ∙ ap (λ (k : ℕ). (line ++ linesAfter u (suc n) os) ++ linesAfter u k os′) behind-it
+use Rattle.whole_piece.proofs.LongestLines.{lines-enough}
+use Rattle.whole_piece.proofs.Batches.{Way, turned-down, too-long, fitting, way, whole}
+use Rattle.whole_piece.proofs.OneByOne.{behind-sound, run, one-by-one}
+use Rattle.whole_piece.proofs.WholePieces.{lines-then}
 
 -- ---- a session from which pieces can be given on
 
 record Sound (s : Session) : Type 0 where
   sound : isSound s ≡ true
   long : length (s .held) ≡ 64
-
-held-long : (u : Setup) (t : SessionState) → isSound (sessionOf u t) ≡ true → length (sessionOf u t .held) ≡ 64
-held-long u t e =
-    let F = sound-facts (sessionOf u t) e in
-    let n = 64 - length (t .scan .held) in
-    omega (
-      arith,
-      length-append (t .scan .held) (replicate n 0),
-      length-replicate {A = ℕ} n 0,
-      count-less (sessionOf u t) F,
-      accepted-length u (F .accepted) .1,
-    )
 
 module _ (s : Session) (S : Sound s) (p b : List ℕ) where
   -- so is the one that comes back with a piece
@@ -75,7 +48,7 @@ module _ (s : Session) (S : Sound s) (p b : List ℕ) where
   sound-behind (fitting e l) =
       let M = admitted s (length p) e in
       let k = behind-sound s p (S .sound) (M .piece) (M .session) in
-      record { sound = k; long = held-long (s .setup) (behind s p) k }
+      record { sound = k; long = held-whole (s .setup) (behind s p) k }
 
 -- ---- what feeding the same pieces gives
 
@@ -85,25 +58,6 @@ record AsFed (s : Session) (ps : List (List ℕ)) (text : List ℕ) (answers : L
   calls : Calls s ps os rs t
   lines : text ≡ linesAfter (s .setup) (s .history .datagrams .0) os
   outcomes : map outcomeIn answers ≡ map (λ (r : Report). r .outcome) rs
-
-module _ (s : Session) (p : List ℕ) where
-  -- the datagrams handed out are counted
-  counted : whole s p .session .history .datagrams .0 ≡ s .history .datagrams .0 + length (answersIn s p)
-  counted =
-      omega (
-        arith,
-        carried-datagrams (s .setup) (stateOf s .carried) (foundIn s p .datagrams),
-        length-told (consumer (s .setup)) (stateOf s .carried) (foundIn s p .datagrams),
-      )
-
-  -- its lines, and those of datagrams that come after
-  lines-joined :
-      (os : List Datagram)
-      → linesIn s p ++ linesAfter (s .setup) (whole s p .session .history .datagrams .0) os
-      ≡ linesAfter (s .setup) (s .history .datagrams .0) (answersIn s p ++ os)
-  unfolding linesIn
-  lines-joined os =
-      ap (λ (k : ℕ). linesIn s p ++ linesAfter (s .setup) k os) counted ∙ sym (lines-append (s .setup) (s .history .datagrams .0) (answersIn s p) os)
 
 module _ (s : Session) (S : Sound s) (p : List ℕ) where
   -- the calls on a piece that is taken
@@ -143,7 +97,7 @@ module _ (s : Session) (S : Sound s) (p : List ℕ) where
           lines =
               ap (λ (l : List ℕ). l ++ text) (take-at first (drop (length first) b) (length first) refl)
               ∙ ap (λ (l : List ℕ). first ++ l) (A .lines)
-              ∙ lines-joined s p (A .os);
+              ∙ sym (lines-then s p (A .os));
           outcomes = ap (λ (l : List Outcome). takenWhole ∷ l) (A .outcomes);
         }
 

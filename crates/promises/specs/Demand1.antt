@@ -16,7 +16,7 @@ use Rattle.setup_line.specs.SetupLine as line
 use Rattle.gaps.specs.declared.Gap.{Gap}
 use Rattle.motion.specs.Totals.{noAxis, axisAt}
 use Rattle.motion.specs.declared.Totals.{Totals}
-use Rattle.text_line.specs.ShownLine.{shownText, outside, writtenNumber, writtenBytes, shownAnswer, shownBuffer}
+use Rattle.text_line.specs.ShownLine.{shownText, outside, shownRules, writtenNumber, writtenBytes, shownAnswer, shownBuffer}
 use Rattle.text_line.specs.declared.Shown.{Shown}
 use Rattle.text.specs.TextLine.{lineText, lineRules, lineAnswer, lineBuffer}
 use Rattle.scan.specs.Calls.{Report}
@@ -25,7 +25,7 @@ use Rattle.session.specs.declared.Session.{Session}
 use Rattle.admission.specs.Admission.{pieceNumber}
 use Rattle.feeding.specs.Feed.{answerNumber, refusal, feedOf, Calls}
 use Rattle.feeding.specs.declared.Datagram.{Datagram}
-use Rattle.lines.specs.Lines.{receivedNumber, receivedBytes, linesAfter, linesIn, batchRules, batchOf, batchBuffer}
+use Rattle.whole_piece.specs.Lines.{receivedNumber, receivedBytes, linesAfter, linesIn, batchRules, batchOf, batchBuffer}
 
 -- a number from the one to the other
 abbrev pub Between : ℕ → ℕ → ℕ → Type 0
@@ -59,6 +59,7 @@ pub record IsFresh (u : Setup) (s : Session) : Type 0 where
 pub record SessionOpened (u : Setup) : Type 0 where
   -- by the same number, with a session of zeros; or with a fresh one
   pub number : rulingNumber (opening u .answer) ≡ setupNumber u
+  pub numbers : {n : ℕ} → rulingNumber (opening u .answer) ≡ some n → Between 4 9 n
   pub refused : {n : ℕ} → setupNumber u ≡ some n → IsFresh zeroSetup (opening u .session)
   pub accepted : setupNumber u ≡ none → IsFresh u (opening u .session)
 
@@ -102,18 +103,29 @@ pub record LineWritten
 -- the same of what is shown, whatever the setup, `text_line::write_shown`
 pub record ShownWritten
     (b : List ℕ) (shown : Shown) (ordinal counter latency : ℕ) (gap : Gap) (readings : List (List ℤ)) (statuses : List ℕ) (totals : Totals) : Type 0 where
-  -- 13 or 14 refuses it, and then nothing is written
+  -- the first of 13 and 14 that applies refuses it, and then nothing is written
+  pub number :
+      writtenNumber (shownAnswer b shown ordinal counter latency gap readings statuses totals)
+      ≡ firstNumber (shownRules ordinal readings totals (shownText shown ordinal counter latency gap readings statuses totals) (length b))
   pub numbers :
       {n : ℕ} → writtenNumber (shownAnswer b shown ordinal counter latency gap readings statuses totals) ≡ some n → Between 13 14 n
   pub refused :
       {n : ℕ} → writtenNumber (shownAnswer b shown ordinal counter latency gap readings statuses totals) ≡ some n
       → shownBuffer b shown ordinal counter latency gap readings statuses totals ≡ b
-  -- else the line stands at the front, whole
+  -- else the line stands at the front, whole, and every later byte is as it was; the number of its bytes comes back
   pub written :
       writtenNumber (shownAnswer b shown ordinal counter latency gap readings statuses totals) ≡ none
       → let text = shownText shown ordinal counter latency gap readings statuses totals in
-      (writtenBytes (shownAnswer b shown ordinal counter latency gap readings statuses totals) ≡ length text)
+      (length text ≤ length b)
+      × (writtenBytes (shownAnswer b shown ordinal counter latency gap readings statuses totals) ≡ length text)
       × (shownBuffer b shown ordinal counter latency gap readings statuses totals ≡ text ++ drop (length text) b)
+  -- 14 refuses a line that 13 doesn't exactly if the buffer is shorter than the line
+  pub fits :
+      outside ordinal readings totals ≡ false → length (shownText shown ordinal counter latency gap readings statuses totals) ≤ length b
+      → writtenNumber (shownAnswer b shown ordinal counter latency gap readings statuses totals) ≡ none
+  pub too-long :
+      outside ordinal readings totals ≡ false → length b < length (shownText shown ordinal counter latency gap readings statuses totals)
+      → writtenNumber (shownAnswer b shown ordinal counter latency gap readings statuses totals) ≡ some 14
 
 -- feeding a piece to its end with its lines into the lent buffer b, `lines::receive_lines`
 pub record PieceReceived (s : Session) (p b : List ℕ) : Type 0 where

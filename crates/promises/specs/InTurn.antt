@@ -12,8 +12,8 @@ use Rattle.session.specs.Session.{opening}
 use Rattle.session.specs.declared.Session.{Session}
 use Rattle.feeding.specs.declared.Datagram.{Datagram}
 use Rattle.feeding.specs.Promises.{FedInTurn}
-use Rattle.lines.specs.Lines.{linesAfter, enough, batchOf, batchBuffer, receivedNumber, receivedBytes}
-use Rattle.lines.specs.declared.Received.{Received}
+use Rattle.whole_piece.specs.Lines.{linesAfter, enough, batchOf, batchBuffer, receivedNumber, receivedBytes}
+use Rattle.whole_piece.specs.declared.Received.{Received}
 
 -- the lines that stand at the front of a buffer behind a call, by its answer
 abbrev pub linesGiven : Received → List ℕ → List ℕ

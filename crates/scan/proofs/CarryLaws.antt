@@ -44,6 +44,12 @@ module _ {X O : Type 0} (K : Consumer X O) where
   carried-append x [] es = refl
   carried-append x (d ∷ ds) es = carried-append (steps K x d) ds es
 
+  -- and what comes back with them
+  pub told-append : (x : X) (ds es : List (List ℕ)) → told K x (ds ++ es) ≡ told K x ds ++ told K (carriedAfter K x ds) es
+  unfolding told carriedAfter
+  told-append x [] es = refl
+  told-append x (d ∷ ds) es = ap (λ (os : List O). tells K x d ∷ os) (told-append (steps K x d) ds es)
+
   -- what comes back with the datagram at a place: of what is carried after those before it
   pub told-at :
       (x : X) (ds : List (List ℕ)) (i : ℕ) (o : O) → i < length ds

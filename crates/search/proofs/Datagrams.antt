@@ -15,9 +15,12 @@ use Rattle.setup.proofs.Refusals as refusals
 use Rattle.acceptance.specs.Acceptable.{acceptable}
 use Rattle.acceptance.proofs.Acceptance.{accepted, accepted-length}
 use Rattle.scan.specs.Rules.{Lawful}
+use Rattle.scan.specs.Scan.{scan}
+use Rattle.scan.specs.Stream.{Among}
 use Rattle.scan.specs.OneLength.{Prompt}
-use Rattle.scan.proofs.OneLength.{one-length-lawful, one-length-prompt}
-use Rattle.search.specs.Search.{isDatagram, limitsOf, rulesOf}
+use Rattle.scan.proofs.AmongLaws.{scan-among}
+use Rattle.scan.proofs.OneLength.{one-length-lawful, one-length-prompt, scan-bare}
+use Rattle.search.specs.Search.{isDatagram, limitsOf, rulesOf, verdictOf}
 
 module _ (u : Setup) (d : List ℕ) where
   -- a datagram is bytes, and acceptable
@@ -48,3 +51,7 @@ module _ (u : Setup) (a : rulingOn u ≡ Accepted) where
   -- and what holds for one length only
   pub prompt : Prompt (rulesOf u)
   prompt = one-length-prompt (u .identifier) (lengthOf u) (isDatagram u) (limitsOf u) some (datagram-length u) (datagram-first u)
+
+  -- The scan's datagrams stand in bytes one behind the other, and none begins at any of the bytes between them.
+  pub among-found : (v : List ℕ) → Among (isDatagram u) v (scan (verdictOf u) v .datagrams)
+  among-found v = scan-among (rulesOf u) lawful v (scan-bare (rulesOf u) lawful prompt v)

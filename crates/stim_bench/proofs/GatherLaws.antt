@@ -8,8 +8,8 @@ use lib.ListN.{length, take, drop, length-append, length-drop}
 use lib.Seq.{take-at, sets, length-sets}
 use Rattle.integers.proofs.Buffers.{to-end, sets-append, put-front, put-part}
 use Rattle.session.specs.declared.Session.{Session}
-use Rattle.lines.specs.Lines.{enough, linesIn}
-use Rattle.lines.proofs.WholePieces.{lines-empty}
+use Rattle.whole_piece.specs.Lines.{enough, linesIn}
+use Rattle.whole_piece.proofs.WholePieces.{lines-empty}
 use Rattle.stim_bench.specs.Bench.{Feedable, fedWith, partLines, withText, IsGathered}
 use Rattle.stim_bench.specs.declared.PartFed.{PartFed}
 use Rattle.stim_bench.specs.declared.Gathered.{Gathered}

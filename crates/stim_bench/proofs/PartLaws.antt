@@ -13,11 +13,12 @@ use Rattle.session.specs.declared.Session.{Session}
 use Rattle.admission.specs.Admission.{pieceRuling}
 use Rattle.admission.proofs.Soundness.{sound-facts}
 use Rattle.admission.proofs.PieceRulings.{admits}
-use Rattle.lines.specs.Lines.{enough, linesIn, bufferBy, batchOf, batchBuffer}
-use Rattle.lines.specs.declared.Received.the-variants.{Lines, Refused as Down}
-use Rattle.lines.specs.declared.Batch.{Batch}
-use Rattle.lines.proofs.Batches.{all-lines}
-use Rattle.lines.proofs.WholePieces.{session-joined, lines-joined, bytes-sound, session-empty}
+use Rattle.whole_piece.specs.Lines.{enough, linesIn, bufferBy, batchOf, batchBuffer}
+use Rattle.whole_piece.specs.declared.Received.the-variants.{Lines, Refused as Down}
+use Rattle.whole_piece.specs.declared.Batch.{Batch}
+use Rattle.whole_piece.proofs.LongestLines.{lines-enough}
+use Rattle.whole_piece.proofs.Batches.{fitting-lines}
+use Rattle.whole_piece.proofs.WholePieces.{session-joined, lines-joined, bytes-sound, session-empty}
 use Rattle.stim_bench.specs.Bench.{Feedable, HasLeft, fedWith, partLines, withText}
 
 -- ---- the session behind bytes may be fed as many bytes as are left
@@ -98,7 +99,9 @@ part-to p at k end e =
 module _ (s : Session) (p b : List ℕ) (F : Feedable s (length p)) (few : length p ≤ limitsOf (s .setup) .piece) (room : enough ≤ length b) where
   answered : batchOf s p (length b) ≡ record { answer = Lines (length (linesIn s p)); session = fedWith s p }
   unfolding fedWith
-  answered = all-lines s p b (record { admitted = admits s (length p) (record { sound = F .sound; piece = few; session = F .room }); enough = omega arith })
+  answered =
+      let e = admits s (length p) (record { sound = F .sound; piece = few; session = F .room }) in
+      fitting-lines s p b e (omega (arith, lines-enough s p e))
 
   -- its lines are in the buffer
   pub part-written : batchBuffer s p b ≡ withText (linesIn s p) b

@@ -12,7 +12,7 @@ use Rattle.session.specs.Session.{opening}
 use Rattle.session.specs.declared.Session.{Session}
 use Rattle.admission.specs.Admission.{isSound}
 use Rattle.feeding.specs.Feed.{sessionOf}
-use Rattle.lines.specs.Lines.{linesIn, behind}
+use Rattle.whole_piece.specs.Lines.{linesIn, behind}
 use Rattle.stim_bench.specs.declared.Got.{Got}
 use Rattle.stim_bench.specs.declared.Got.the-variants.{Bytes, End, Failed}
 use Rattle.stim_bench.specs.declared.PartFed.{PartFed}

@@ -6,15 +6,15 @@ ghost use Rattle.setup.specs.declared.Ruling.the-variants.{Refused};
 ghost use Rattle.setup_line.specs.SetupLine.{lineRead};
 ghost use Rattle.search.specs.Search.{limitsOf};
 ghost use Rattle.admission.specs.Admission.{pieceRuling};
-ghost use Rattle.lines.specs.Lines.{linesIn, enough};
+ghost use Rattle.whole_piece.specs.Lines.{linesIn, enough};
 ghost use Rattle.stim_bench.specs.Bench.{lineEnd, firstLine, Opens, GotWithin, Feedable, HasLeft, partLines, withText, IsGathered, AreFed};
 use libc::STDERR_FILENO;
 use libc::STDIN_FILENO;
 use libc::STDOUT_FILENO;
-use lines::Received;
 use session::Session;
 use setup::Ruling;
 use setup::Setup;
+use whole_piece::Received;
 
 // The most bytes of a piece and of a session, 2^34 (01, What is turned down, 11 and 12).
 const PIECE_LIMIT: usize = 4096;

@@ -3,16 +3,15 @@
 use mathlib.Core.Path.{_≡_, refl, sym, ap, _∙_}
 use mathlib.Core.Bool.{true, false}
 use mathlib.Core.List.{List, _∷_, _++_}
-use mathlib.Core.Option.{Option, none, some}
+use mathlib.Core.Option.{none, some}
 use mathlib.Core.Logic.{_⊎_, inl, inr, ⊎-elim}
 use Prim.Native.Nat.{ℕ, _^_, _≤_, _<_}
 use native.Mathlib.Omega.{arith}
 use borrow.Author.Tests.{ltb-true, ltb-false}
 use lib.Dec.{ltb}
 use lib.IntN.{ℤ}
-use lib.ListN.{length, take, drop, getD}
-use lib.Seq.{take-at, drop-at}
-use Rattle.setup.specs.Setup.{Rule, rule, firstNumber, rulingWith, firstOf, setupRules, rulingOn}
+use lib.ListN.{length, drop, getD}
+use Rattle.setup.specs.Setup.{Rule, rule, firstNumber, firstOf, setupRules, rulingOn}
 use Rattle.setup.specs.declared.Setup.{Setup}
 use Rattle.setup.specs.declared.Ruling as ruling
 use Rattle.setup.specs.declared.Ruling.{Ruling}
@@ -20,11 +19,11 @@ use Rattle.setup.proofs.Refusals.{judge-numbers}
 use Rattle.setup.proofs.Rules.{none-applies, first-accepted, first-refused}
 use Rattle.gaps.specs.declared.Gap.{Gap}
 use Rattle.motion.specs.declared.Totals.{Totals}
-use Rattle.text_line.specs.ShownLine.{readingsFit, totalsWithin, outside, roomRules, shownRules, writtenBy, writtenNumber, writtenBytes, longestLine}
+use Rattle.text_line.specs.ShownLine.{readingsFit, totalsWithin, outside, roomRules, shownRules, writtenNumber, writtenBytes, longestLine}
 use Rattle.text_line.specs.declared.Written.{Written}
 use Rattle.text_line.proofs.Answers.{inside}
 use Rattle.text_line.proofs.Longest.{MissedFits, shown-longest}
-use Rattle.text_line.proofs.ShownLaws.{refused-by, written-by, last-fourteen, last-numbers, shown-enough, shown-short}
+use Rattle.text_line.proofs.ShownLaws.{refused-by, written-by, number-by, last-fourteen, last-numbers, shown-enough, shown-short}
 use Rattle.text.specs.TextLine.{shownBy, lineText, lineRules, lineRuling, lineAnswer, lineBuffer}
 use Rattle.text.proofs.Answers.{accepted-answer}
 
@@ -79,11 +78,7 @@ module _ (b : List ℕ) (setup : Setup) (ordinal counter latency : ℕ) (gap : G
   -- the number is that of the first rule that applies
   pub answer-number : writtenNumber answer ≡ firstNumber (lineRules setup ordinal readings totals text (length b))
   unfolding lineAnswer lineRuling
-  answer-number = by (firstNumber (lineRules setup ordinal readings totals text (length b)))
-    where
-      by : (o : Option ℕ) → writtenNumber (writtenBy (rulingWith o) text) ≡ o
-      by none = refl
-      by (some n) = refl
+  answer-number = number-by (firstNumber (lineRules setup ordinal readings totals text (length b))) text
 
   -- a line is refused by 4 to 9, 13 and 14 only
   pub answer-numbers : {n : ℕ} → writtenNumber answer ≡ some n → LineNumber n
@@ -103,23 +98,15 @@ module _ (b : List ℕ) (setup : Setup) (ordinal counter latency : ℕ) (gap : G
       let l = none-applies rules (a .1) in
       (a .0, l .0, ltb-false (length b) (length text) (l .1 .0))
 
-  -- a written line tells its length, at most the buffer's, and alters only its own bytes, from the front
-  pub written-tells : writtenNumber answer ≡ none → (writtenBytes answer ≡ length text) × (writtenBytes answer ≤ length b)
-  written-tells e = (written-of e .1, omega (arith, written-of e .1, written-fits e .2))
-
-  pub written-front : writtenNumber answer ≡ none → buffer ≡ text ++ drop (writtenBytes answer) b
+  -- a written line alters only its own bytes, from the front
+  written-front : writtenNumber answer ≡ none → buffer ≡ text ++ drop (writtenBytes answer) b
   unfolding lineAnswer lineBuffer
   written-front e = rw (written-by ruling-line text e .0)
 
+  -- it stands there whole, and its length comes back
   pub written-whole :
       writtenNumber answer ≡ none → (length text ≤ length b) × (writtenBytes answer ≡ length text) × (buffer ≡ text ++ drop (length text) b)
   written-whole e = (written-fits e .2, written-of e .1, written-front e ∙ ap (λ (n : ℕ). text ++ drop n b) (written-of e .1))
-
-  pub written-line : writtenNumber answer ≡ none → take (writtenBytes answer) buffer ≡ text
-  written-line e = ap (take (writtenBytes answer)) (written-front e) ∙ take-at text (drop (writtenBytes answer) b) (writtenBytes answer) (sym (written-of e .1))
-
-  pub written-rest : writtenNumber answer ≡ none → drop (writtenBytes answer) buffer ≡ drop (writtenBytes answer) b
-  written-rest e = ap (drop (writtenBytes answer)) (written-front e) ∙ drop-at text (drop (writtenBytes answer) b) (writtenBytes answer) (sym (written-of e .1))
 
   -- a buffer as long as the line is enough, and one that is shorter isn't
   module _ (a : rulingOn setup ≡ ruling.the-variants.Accepted) (h : outside ordinal readings totals ≡ false) where

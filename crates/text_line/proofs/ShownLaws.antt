@@ -3,14 +3,14 @@
 use mathlib.Core.Path.{_≡_, refl, sym, ap, _∙_}
 use mathlib.Core.Bool.{Bool, true, false}
 use mathlib.Core.List.{List, [], _∷_, _++_}
-use mathlib.Core.Option.{none, some}
+use mathlib.Core.Option.{Option, none, some}
 use Prim.Native.Nat.{ℕ, _≤_, _<_}
 use native.Mathlib.Omega.{arith}
 use borrow.Author.Tests.{ltb-false}
 use lib.Dec.{ltb}
 use lib.IntN.{ℤ}
 use lib.ListN.{length, drop}
-use Rattle.setup.specs.Setup.{rule, firstOf}
+use Rattle.setup.specs.Setup.{rule, firstNumber, rulingWith, firstOf}
 use Rattle.setup.specs.declared.Ruling as ruling
 use Rattle.setup.specs.declared.Ruling.{Ruling}
 use Rattle.setup.proofs.Rules.{none-applies, first-within}
@@ -31,6 +31,10 @@ refused-by (ruling.the-variants.Refused m) t {n} e = let s : m ≡ n = cc in ap 
 pub written-by : (j : Ruling) (t : List ℕ) → writtenNumber (writtenBy j t) ≡ none → (j ≡ ruling.the-variants.Accepted) × (writtenBytes (writtenBy j t) ≡ length t)
 written-by ruling.the-variants.Accepted t e = (refl, refl)
 written-by (ruling.the-variants.Refused m) t e = let z : _≡_ {A = ℕ} 0 1 = cc in absurd (omega arith)
+
+pub number-by : (o : Option ℕ) (t : List ℕ) → writtenNumber (writtenBy (rulingWith o) t) ≡ o
+number-by none t = refl
+number-by (some n) t = refl
 
 -- ---- the rules of a line
 
@@ -58,6 +62,11 @@ module _ (b : List ℕ) (shown : Shown) (ordinal counter latency : ℕ) (gap : G
   abbrev shown-buffer : List ℕ
   shown-buffer = shownBuffer b shown ordinal counter latency gap readings statuses totals
 
+  -- the number is that of the first rule that applies
+  pub shown-number : writtenNumber shown-answer ≡ firstNumber (shownRules ordinal readings totals shown-text (length b))
+  unfolding shownAnswer shownRuling
+  shown-number = number-by (firstNumber (shownRules ordinal readings totals shown-text (length b))) shown-text
+
   -- it is refused by 13 and 14 only, and a refusal writes nothing
   pub shown-numbers : {n : ℕ} → writtenNumber shown-answer ≡ some n → (13 ≤ n) × (n ≤ 14)
   unfolding shownAnswer shownRuling shownRules
@@ -67,17 +76,20 @@ module _ (b : List ℕ) (shown : Shown) (ordinal counter latency : ℕ) (gap : G
   unfolding shownAnswer shownBuffer
   shown-keeps e = rw (refused-by shown-ruling shown-text e)
 
-  -- a written line tells its length, at most the buffer's, and alters only its own bytes, from the front
-  pub shown-tells : writtenNumber shown-answer ≡ none → (writtenBytes shown-answer ≡ length shown-text) × (writtenBytes shown-answer ≤ length b)
-  unfolding shownAnswer shownRuling shownRules
-  shown-tells e =
-      let w = written-by shown-ruling shown-text e in
-      let l = none-applies (rule 13 (outside ordinal readings totals) ∷ roomRules shown-text (length b)) (w .0) in
-      (w .1, omega (arith, w .1, ltb-false (length b) (length shown-text) (l .1 .0)))
-
-  pub shown-front : writtenNumber shown-answer ≡ none → shown-buffer ≡ shown-text ++ drop (writtenBytes shown-answer) b
+  -- a written line alters only its own bytes, from the front
+  shown-front : writtenNumber shown-answer ≡ none → shown-buffer ≡ shown-text ++ drop (writtenBytes shown-answer) b
   unfolding shownAnswer shownBuffer
   shown-front e = rw (written-by shown-ruling shown-text e .0)
+
+  -- it stands there whole, and its length comes back
+  pub shown-whole :
+      writtenNumber shown-answer ≡ none
+      → (length shown-text ≤ length b) × (writtenBytes shown-answer ≡ length shown-text) × (shown-buffer ≡ shown-text ++ drop (length shown-text) b)
+  unfolding shownAnswer shownRuling shownRules
+  shown-whole e =
+      let w = written-by shown-ruling shown-text e in
+      let l = none-applies (rule 13 (outside ordinal readings totals) ∷ roomRules shown-text (length b)) (w .0) in
+      (ltb-false (length b) (length shown-text) (l .1 .0), w .1, shown-front e ∙ ap (λ (n : ℕ). shown-text ++ drop n b) (w .1))
 
   -- a buffer as long as the line is enough, and one that is shorter isn't
   module _ (h : outside ordinal readings totals ≡ false) where

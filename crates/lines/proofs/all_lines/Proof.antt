@@ -3,7 +3,7 @@ use native.Mathlib.Omega.{arith}
 use lib.ListN.{length}
 use Rattle.admission.proofs.PieceRulings.{admitted}
 use Rattle.lines.proofs.LoopInvariant.{ready-start}
-use Rattle.lines.proofs.Batches.{answered-none}
+use Rattle.lines.proofs.Answered.{answered-none}
 use borrow.Author.Needs.{needs}
 use Rattle.lines.proofs.all_lines.Statement.{statement}
 use Rattle.lines.proofs.all_lines.Tie as tie

@@ -5,8 +5,8 @@ use native.Mathlib.Omega.{arith}
 use borrow.Author.Needs.{needs}
 use lib.ListN.{length, take}
 use lib.Seq.{length-take-le}
-use Rattle.lines.proofs.LongestLines.{room-admitted}
-use Rattle.lines.proofs.Batches.{apart-within, apart-refused, apart-copied, apart-never}
+use Rattle.whole_piece.proofs.LongestLines.{room-admitted}
+use Rattle.lines.proofs.Answered.{apart-within, apart-refused, apart-copied, apart-never}
 use Rattle.lines.proofs.lines_apart.Statement.{statement}
 use Rattle.lines.proofs.lines_apart.Tie as tie
 

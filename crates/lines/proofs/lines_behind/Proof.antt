@@ -9,15 +9,15 @@ use lib.ListN.{length}
 use lib.Seq.{sets, length-sets}
 use Rattle.text_line.specs.ShownLine.{outside, longestLine}
 use Rattle.search.specs.Search.{limitsOf}
-use Rattle.admission.proofs.Soundness.{sound-facts}
 use Rattle.admission.proofs.PieceRulings.{Admitted, admitted}
 use Rattle.feeding.specs.declared.Reply.{Reply}
 use Rattle.feeding.specs.Feed.{stateOf}
 use Rattle.feeding.proofs.EachCall.{not-refused}
-use Rattle.lines.specs.declared.Received.the-variants.{Lines}
+use Rattle.whole_piece.specs.declared.Received.the-variants.{Lines}
 use Rattle.lines.specs.declared.LookedUp.{LookedUp}
-use Rattle.lines.specs.Lines.{lineBy, lineOf, foundIn, roomFor}
-use Rattle.lines.specs.PieceParts.{lookedUp, startOf, nextLine, Ready, scanAt, Answered}
+use Rattle.whole_piece.specs.Lines.{lineBy, lineOf, foundIn, roomFor}
+use Rattle.whole_piece.specs.NextLines.{nextLine}
+use Rattle.lines.specs.PieceParts.{lookedUp, startOf, Ready, scanAt, Answered}
 use Rattle.lines.proofs.HeldFirst.{Handed, handed, datagram, turn, first-line, first-inside, first-short, first-setup, first-ready, first-fed, first-answered, waited-answered}
 use Rattle.lines.proofs.lines_behind.Statement.{statement}
 use Rattle.lines.proofs.lines_behind.Tie as tie

@@ -12,7 +12,8 @@ use Rattle.search.specs.Search.{isDatagram, verdictOf, placeOf}
 use Rattle.search.proofs.Datagrams.{datagram-least}
 use Rattle.search.proofs.Places.{IsComplete, IsUndecided, found-complete, found-undecided}
 use Rattle.lines.specs.declared.Progress.{Progress}
-use Rattle.lines.specs.PieceParts.{nextLine, nextOf, Ready, Finished}
+use Rattle.whole_piece.specs.NextLines.{nextLine}
+use Rattle.lines.specs.PieceParts.{nextOf, Ready, Finished}
 use Rattle.lines.proofs.LoopInvariant.{Invariant, invariant-start, complete-within, complete-long, invariant-next, undecided-within}
 use Rattle.lines.proofs.LoopInvariant.{finished-stop, finished-all, ready-less}
 use Rattle.lines.proofs.lines_from.Statement.{statement}

@@ -1,15 +1,12 @@
 -- `lines::one_line` meets its contract: the fields, the gap, the history and the totals of the datagram, and its line. Assumes nothing.
 use Prim.Native.Nat.{ℕ, suc, _+_, _^_, _≤_, _<_}
 use mathlib.Core.Path.{_≡_, sym, ap, _∙_}
-use mathlib.Core.Bool.{Bool}
-use mathlib.Core.List.{List}
 use native.Mathlib.Numerals.{add-one}
 use native.Mathlib.Omega.{arith}
 use borrow.Author.Needs.{needs}
 use lib.ListN.{length}
 use lib.Seq.{sets}
 use Rattle.setup.specs.Setup.{lengthOf}
-use Rattle.setup.specs.Sensor.{sensorOf}
 use Rattle.setup.proofs.Refusals.{accepted-length}
 use Rattle.wire.specs.Fields.{Contents, contentsOf, fieldsOf}
 use Rattle.wire.proofs.FieldBytes.{sensor-fields}
@@ -23,9 +20,9 @@ use Rattle.history.specs.declared.History.{History}
 use Rattle.history.proofs.HistoryLaws.{advanced-next}
 use Rattle.feeding.proofs.BySetup.{after-datagram}
 use Rattle.lines.specs.declared.LookedUp.{LookedUp}
-use Rattle.lines.specs.PieceParts.{nextLine, nextOf}
-use Rattle.lines.proofs.NextLines.{nextHistory, gapIn, next-line, line-inside, line-short}
-use Rattle.lines.proofs.LoopInvariant.{few-of}
+use Rattle.whole_piece.specs.NextLines.{nextLine}
+use Rattle.lines.specs.PieceParts.{nextOf}
+use Rattle.whole_piece.proofs.NextLines.{few-of, nextHistory, gapIn, next-line, line-inside, line-short}
 use Rattle.lines.proofs.one_line.Statement.{statement}
 use Rattle.lines.proofs.one_line.Tie as tie
 

@@ -7,8 +7,9 @@ use Rattle.setup.specs.declared.Ruling.the-variants.{Accepted}
 use Rattle.admission.specs.Admission.{pieceRuling}
 use Rattle.admission.proofs.Soundness.{sound-facts}
 use Rattle.admission.proofs.PieceRulings.{Admitted, admits, admission-sensor, admission-number}
-use Rattle.lines.proofs.LongestLines.{room-admitted}
-use Rattle.lines.proofs.Batches.{refused, refused-keeps, answered-all}
+use Rattle.whole_piece.proofs.LongestLines.{room-admitted}
+use Rattle.whole_piece.proofs.Batches.{refused, refused-keeps}
+use Rattle.lines.proofs.Answered.{answered-all}
 use borrow.Author.Needs.{needs}
 use Rattle.lines.proofs.receive_lines.Statement.{statement}
 use Rattle.lines.proofs.receive_lines.Tie as tie

@@ -4,7 +4,7 @@ use native.Mathlib.Omega.{arith}
 use lib.ListN.{length}
 use borrow.Author.Needs.{needs}
 use borrow.Author.Tests.{leb-true, leb-false}
-use Rattle.lines.specs.Lines.{enough}
+use Rattle.whole_piece.specs.Lines.{enough}
 use Rattle.stim_bench.proofs.PartLaws.{front-feedable}
 use Rattle.stim_bench.proofs.GatherLaws.{Gathering, gathering-none, gathering-more, gathering-some, gathered}
 use Rattle.stim_bench.proofs.gather.Statement.{statement}

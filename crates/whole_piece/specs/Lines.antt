@@ -18,9 +18,9 @@ use Rattle.admission.specs.Admission.{heldBytes, pieceRules}
 use Rattle.session.specs.declared.Session.{Session}
 use Rattle.feeding.specs.Feed.{consumer, SessionState, stateOf, sessionOf}
 use Rattle.feeding.specs.declared.Datagram.{Datagram}
-use Rattle.lines.specs.declared.Received.{Received}
-use Rattle.lines.specs.declared.Received.the-variants.{Lines, Refused}
-use Rattle.lines.specs.declared.Batch.{Batch}
+use Rattle.whole_piece.specs.declared.Received.{Received}
+use Rattle.whole_piece.specs.declared.Received.the-variants.{Lines, Refused}
+use Rattle.whole_piece.specs.declared.Batch.{Batch}
 
 -- the line of a datagram that came back, under its ordinal, with the fields that are shown
 abbrev pub lineBy : Shown → ℕ → Datagram → List ℕ

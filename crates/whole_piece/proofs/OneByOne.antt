@@ -24,7 +24,7 @@ use Rattle.feeding.proofs.Refinement.{SafeOf, state-safe, session-sound, sessio
 use Rattle.feeding.proofs.HistoryInvariant.{history-invariant}
 use Rattle.feeding.proofs.OneLength.{undecided-held}
 use Rattle.feeding.proofs.Agreement.{StateRun, run-of-states, run-of-sessions}
-use Rattle.lines.specs.Lines.{foundIn, answersIn, behind}
+use Rattle.whole_piece.specs.Lines.{foundIn, answersIn, behind}
 
 module _ (s : Session) (p : List ℕ) (e : isSound s ≡ true) (few : length p ≤ limitsOf (s .setup) .piece)
     (most : s .fed + length p ≤ limitsOf (s .setup) .session) where

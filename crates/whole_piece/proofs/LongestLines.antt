@@ -13,10 +13,8 @@ use Rattle.setup.proofs.Refusals.{accepted-length}
 use Rattle.text_line.specs.ShownLine.{longestLine}
 use Rattle.scan.specs.Stream.{Among, end, other, then}
 use Rattle.scan.specs.Carry.{steps, told}
-use Rattle.scan.proofs.AmongLaws.{scan-among}
-use Rattle.scan.proofs.OneLength.{scan-bare}
-use Rattle.search.specs.Search.{isDatagram, limitsOf, rulesOf}
-use Rattle.search.proofs.Datagrams.{datagram-length, lawful, prompt}
+use Rattle.search.specs.Search.{isDatagram, limitsOf}
+use Rattle.search.proofs.Datagrams.{datagram-length, among-found}
 use Rattle.history.specs.History.{historyNext}
 use Rattle.history.specs.declared.History.{History}
 use Rattle.admission.specs.Admission.{heldBytes, axesRight, pieceRuling}
@@ -26,10 +24,9 @@ use Rattle.session.specs.declared.Session.{Session}
 use Rattle.feeding.specs.Feed.{historyAfter, consumer, stateOf}
 use Rattle.feeding.proofs.Refinement.{count-held}
 use Rattle.feeding.proofs.CallParts.{count-less}
-use Rattle.lines.specs.Lines.{linesAfter, linesIn, roomFor, enough}
-use Rattle.lines.specs.PieceParts.{nextLine}
-use Rattle.lines.proofs.NextLines.{right-next, line-short, lines-more}
-use Rattle.lines.proofs.LoopInvariant.{few-of}
+use Rattle.whole_piece.specs.Lines.{linesAfter, linesIn, roomFor, enough}
+use Rattle.whole_piece.specs.NextLines.{nextLine}
+use Rattle.whole_piece.proofs.NextLines.{few-of, right-next, line-short, lines-more}
 
 module _ (u : Setup) (ok : rulingOn u ≡ Accepted) where
   -- each datagram of a stream has 18 bytes or more, and its line at most 307
@@ -63,7 +60,7 @@ lines-fit s p e =
     let F = sound-facts s (A .sound) in
     let u = s .setup in
     let v = heldBytes s ++ p in
-    let parted = scan-among (rulesOf u) (lawful u (F .accepted)) v (scan-bare (rulesOf u) (lawful u (F .accepted)) (prompt u (F .accepted)) v) in
+    let parted = among-found u (F .accepted) v in
     let held = count-held s F in
     let all = length-append (heldBytes s) p in
     let r = lines-longest u (F .accepted) parted (stateOf s .carried) (F .axes) (omega (arith, F .sum, A .session, held, all)) in

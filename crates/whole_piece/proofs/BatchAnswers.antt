@@ -9,9 +9,9 @@ use Rattle.setup.specs.Setup.{firstNumber, rulingWith}
 use Rattle.setup.proofs.Rules.{no-number}
 use Rattle.session.specs.declared.Session.{Session}
 use Rattle.feeding.specs.Feed.{sessionOf}
-use Rattle.lines.specs.declared.Received.the-variants.{Lines}
-use Rattle.lines.specs.declared.Batch.{Batch}
-use Rattle.lines.specs.Lines.{linesIn, behind, refusing, batchWith, batchRules, batchOf, receivedNumber, receivedBytes, bufferBy, batchBuffer}
+use Rattle.whole_piece.specs.declared.Received.the-variants.{Lines}
+use Rattle.whole_piece.specs.declared.Batch.{Batch}
+use Rattle.whole_piece.specs.Lines.{linesIn, behind, refusing, batchWith, batchRules, batchOf, receivedNumber, receivedBytes, bufferBy, batchBuffer}
 
 module _ (s : Session) (p b : List ℕ) where
   abbrev rules-number : Option ℕ

@@ -1,6 +1,6 @@
 -- One piece behind another leaves the session and the lines that the two joined do; an empty one leaves the session as it is, and has no lines.
 -- Assumes nothing.
-use Prim.Native.Nat.{ℕ, _+_, _≤_}
+use Prim.Native.Nat.{ℕ, suc, _+_, _≤_}
 use mathlib.Core.Path.{_≡_, refl, sym, ap, _∙_, subst}
 use mathlib.Core.Bool.{true}
 use mathlib.Core.List.{List, [], _∷_, _++_, append-assoc, append-nil}
@@ -12,47 +12,53 @@ use Rattle.setup.specs.Setup.{rulingOn}
 use Rattle.setup.specs.declared.Setup.{Setup}
 use Rattle.setup.specs.declared.Ruling.the-variants.{Accepted}
 use Rattle.scan.specs.Scan.{Scanned, holding, scan}
-use Rattle.scan.specs.Carry.{steps, carriedAfter}
+use Rattle.scan.specs.Carry.{told, carriedAfter}
 use Rattle.scan.proofs.ScanLaws.{followed, scan-waits, scan-append}
 use Rattle.scan.proofs.AmongLaws.{stable}
-use Rattle.scan.proofs.CarryLaws.{carried-append}
+use Rattle.scan.proofs.CarryLaws.{carried-append, told-append, length-told}
 use Rattle.search.specs.Search.{limitsOf, rulesOf, verdictOf}
 use Rattle.search.proofs.Datagrams.{lawful}
-use Rattle.history.specs.declared.History.{History}
 use Rattle.session.specs.Session.{sessionWith}
 use Rattle.session.specs.declared.Session.{Session}
 use Rattle.admission.specs.Admission.{heldBytes, isSound}
 use Rattle.admission.proofs.Soundness.{sound-facts}
-use Rattle.feeding.specs.Feed.{consumer, sessionOf}
+use Rattle.feeding.specs.Feed.{consumer, stateOf, sessionOf}
+use Rattle.feeding.specs.declared.Datagram.{Datagram}
 use Rattle.feeding.proofs.Refinement.{session-state}
 use Rattle.feeding.proofs.OneLength.{undecided-held}
-use Rattle.lines.specs.Lines.{foundIn, linesIn, behind}
-use Rattle.lines.specs.PieceParts.{nextLine, textOf}
-use Rattle.lines.proofs.NextLines.{text-none, text-more}
-use Rattle.lines.proofs.OneByOne.{behind-sound}
+use Rattle.feeding.proofs.ContainedAt.{carried-datagrams}
+use Rattle.whole_piece.specs.Lines.{lineOf, linesAfter, foundIn, answersIn, linesIn, behind}
+use Rattle.whole_piece.proofs.OneByOne.{behind-sound}
 
--- ---- the lines of one list of datagrams and then another
+-- ---- the lines of datagrams, and of those that come after them
 
-abbrev only : List (List ℕ) → Scanned
-only ds = record { datagrams = ds; passed = 0; held = [] }
+lines-append : (u : Setup) (n : ℕ) (os os′ : List Datagram) → linesAfter u n (os ++ os′) ≡ linesAfter u n os ++ linesAfter u (n + length os) os′
+unfolding linesAfter
+lines-append u n [] os′ = ap (λ (k : ℕ). linesAfter u k os′) (sym (add-zero n))
+lines-append u n (o ∷ os) os′ =
+    let line = lineOf u (suc n) o in
+    let behind-it : suc n + length os ≡ n + suc (length os) = omega arith in
+    ap (λ (l : List ℕ). line ++ l) (lines-append u (suc n) os os′)
+    ∙ sym (append-assoc line (linesAfter u (suc n) os) (linesAfter u (suc n + length os) os′))
+    ∙ ap (λ (k : ℕ). (line ++ linesAfter u (suc n) os) ++ linesAfter u k os′) behind-it
 
-text-append :
-    (u : Setup) (k : History) (ds es : List (List ℕ))
-    → textOf u k (only (ds ++ es)) ≡ textOf u k (only ds) ++ textOf u (carriedAfter (consumer u) k ds) (only es)
-unfolding carriedAfter
-text-append u k [] es = ap (λ (t : List ℕ). t ++ textOf u k (only es)) (sym (text-none u k 0 []))
-text-append u k (d ∷ ds) es =
-    let x = steps (consumer u) k d in
-    let rest = textOf u (carriedAfter (consumer u) x ds) (only es) in
-    text-more u k 0 d (only (ds ++ es))
-    ∙ ap (λ (t : List ℕ). nextLine u k d ++ t) (text-append u x ds es)
-    ∙ sym (append-assoc (nextLine u k d) (textOf u x (only ds)) rest)
-    ∙ ap (λ (t : List ℕ). t ++ rest) (sym (text-more u k 0 d (only ds)))
+-- those of a piece are counted in the session behind it
+counted : (s : Session) (p : List ℕ) → behind s p .carried .datagrams .0 ≡ s .history .datagrams .0 + length (answersIn s p)
+counted s p =
+    omega (
+      arith,
+      carried-datagrams (s .setup) (stateOf s .carried) (foundIn s p .datagrams),
+      length-told (consumer (s .setup)) (stateOf s .carried) (foundIn s p .datagrams),
+    )
 
--- the lines of a piece are those of its datagrams
-lines-of-found : (s : Session) (p : List ℕ) → linesIn s p ≡ textOf (s .setup) (s .history) (only (foundIn s p .datagrams))
-unfolding linesIn textOf
-lines-of-found s p = refl
+-- the lines of a piece, and those of datagrams that come after it
+pub lines-then :
+    (s : Session) (p : List ℕ) (os : List Datagram)
+    → linesAfter (s .setup) (s .history .datagrams .0) (answersIn s p ++ os) ≡ linesIn s p ++ linesAfter (s .setup) (behind s p .carried .datagrams .0) os
+unfolding linesIn
+lines-then s p os =
+    lines-append (s .setup) (s .history .datagrams .0) (answersIn s p) os
+    ∙ ap (λ (k : ℕ). linesIn s p ++ linesAfter (s .setup) k os) (sym (counted s p))
 
 -- ---- a piece, and another behind it
 
@@ -82,15 +88,13 @@ module _ (s : Session) (p q : List ℕ) (ok : rulingOn (s .setup) ≡ Accepted) 
       λ i. sessionWith (s .setup) (carried i) (passed i) (fed i) (e i .held)
 
   pub lines-joined : linesIn s (p ++ q) ≡ linesIn s p ++ linesIn between q
+  unfolding linesIn
   lines-joined =
-      let u = s .setup in
-      let f = foundIn s p in
-      let g = foundIn between q in
-      lines-of-found s (p ++ q)
-      ∙ ap (λ (x : Scanned). textOf u (s .history) (only (x .datagrams))) found-joined
-      ∙ text-append u (s .history) (f .datagrams) (g .datagrams)
-      ∙ ap (λ (t : List ℕ). t ++ textOf u (between .history) (only (g .datagrams))) (sym (lines-of-found s p))
-      ∙ ap (λ (t : List ℕ). linesIn s p ++ t) (sym (lines-of-found between q))
+      let K = consumer (s .setup) in
+      let answers : answersIn s (p ++ q) ≡ answersIn s p ++ answersIn between q =
+      ap (λ (x : Scanned). told K (s .history) (x .datagrams)) found-joined
+      ∙ told-append K (s .history) (foundIn s p .datagrams) (foundIn between q .datagrams) in
+      ap (linesAfter (s .setup) (s .history .datagrams .0)) answers ∙ lines-then s p (answersIn between q)
 
 -- the session behind bytes of any number within the session's limit isn't turned down by 10
 pub bytes-sound :
@@ -117,7 +121,5 @@ module _ (s : Session) (e : isSound s ≡ true) where
       (λ i. sessionWith (s .setup) (carried i) (passed i) (add-zero (s .fed) i) (found-none i .held)) ∙ session-state s e long
 
   pub lines-empty : linesIn s [] ≡ []
-  lines-empty =
-      lines-of-found s []
-      ∙ ap (λ (x : Scanned). textOf (s .setup) (s .history) (only (x .datagrams))) found-none
-      ∙ text-none (s .setup) (s .history) 0 []
+  unfolding linesIn linesAfter told
+  lines-empty = ap (λ (x : Scanned). linesAfter (s .setup) (s .history .datagrams .0) (told (consumer (s .setup)) (s .history) (x .datagrams))) found-none

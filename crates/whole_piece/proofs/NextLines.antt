@@ -1,10 +1,10 @@
 -- The line of the next datagram: 13 doesn't refuse it, and it is at most 307 bytes long. Assumes nothing.
-use Prim.Native.Nat.{ℕ, suc, _-_, _/_, _%_, _^_, _≤_, _<_}
+use Prim.Native.Nat.{ℕ, suc, _+_, _*_, _-_, _/_, _%_, _^_, _≤_, _<_}
 use mathlib.Core.Option.{none, some}
 use mathlib.Core.Path.{_≡_, refl, sym, ap, subst}
 use mathlib.Core.Bool.{Bool, true, false, cond, _&&_, _||_}
 use mathlib.Core.List.{List, [], _∷_, _++_}
-use native.Mathlib.Nat.{div-le-self}
+use native.Mathlib.Nat.{div-le-self, mul-le-mul-right}
 use native.Mathlib.Numerals.{add-one}
 use native.Mathlib.Omega.{arith}
 use lib.Dec.{eqb, eqb·suc-zero}
@@ -13,9 +13,10 @@ use lib.ListN.{length, getD}
 use Rattle.integers.specs.Ranges.{within}
 use Rattle.integers.proofs.Folding.{InRange}
 use Rattle.integers.proofs.Ranges.{le-within, range-inReading}
-use Rattle.setup.specs.Setup.{rulingOn}
+use Rattle.setup.specs.Setup.{rulingOn, lengthOf}
 use Rattle.setup.specs.declared.Setup.{Setup}
 use Rattle.setup.specs.declared.Ruling.the-variants.{Accepted}
+use Rattle.setup.proofs.Refusals.{accepted-length}
 use Rattle.wire.specs.Fields.{Contents, fieldsOf}
 use Rattle.wire.proofs.FieldRanges.{Fitting, fields-fit}
 use Rattle.gaps.specs.Gaps.{datagrams, gapWith, stepAt, elapsed, missedAfter, missedAt, gapAt}
@@ -29,7 +30,7 @@ use Rattle.text_line.proofs.Longest.{MissedFits, shown-longest}
 use Rattle.scan.specs.Scan.{Scanned, passing, handing, holding}
 use Rattle.scan.specs.Carry.{steps, told}
 use Rattle.integers.proofs.Booleans.{and-true}
-use Rattle.search.specs.Search.{isDatagram}
+use Rattle.search.specs.Search.{isDatagram, limitsOf}
 use Rattle.search.proofs.Datagrams.{datagram-parts}
 use Rattle.history.specs.History.{awaitsFirst, historyNext}
 use Rattle.admission.specs.Admission.{axesRight}
@@ -37,8 +38,8 @@ use Rattle.history.specs.declared.History.{History}
 use Rattle.admission.proofs.AxisLaws.{axes-at, axes-step}
 use Rattle.feeding.specs.Feed.{historyAfter, datagramWith, consumer}
 use Rattle.feeding.proofs.BySetup.{after-datagram, told-datagram}
-use Rattle.lines.specs.Lines.{lineOf, linesAfter}
-use Rattle.lines.specs.PieceParts.{nextLine, textOf}
+use Rattle.whole_piece.specs.Lines.{lineOf, linesAfter}
+use Rattle.whole_piece.specs.NextLines.{nextLine, textOf}
 
 -- ---- a gap is a number of at most 256, or none
 
@@ -80,6 +81,10 @@ totals-small u n a e h =
     (all-three (small 2 0 (omega arith) (omega arith)) (small 2 1 (omega arith) (omega arith)) (small 2 2 (omega arith) (omega arith)))
 
 -- ---- the line
+
+-- few datagrams, of 18 bytes or more each
+pub few-of : (u : Setup) → rulingOn u ≡ Accepted → (n rest : ℕ) → lengthOf u * n + rest ≤ limitsOf u .session → n < 2 ^ 30
+few-of u a n rest h = omega (arith, mul-le-mul-right n (accepted-length u a .0))
 
 module _ (u : Setup) (ok : rulingOn u ≡ Accepted) (x : History) (d : List ℕ) where
   abbrev inside-it : Contents

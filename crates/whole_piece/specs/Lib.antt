@@ -1,0 +1,3 @@
+-- A whole piece at once.
+pub mod Lines
+pub mod NextLines
