@@ -12,7 +12,7 @@ use Rattle.setup.specs.Setup.{lengthOf}
 use Rattle.setup.specs.declared.Setup.{Setup}
 use Rattle.setup.proofs.Refusals.{accepted-length}
 use Rattle.wire.specs.Fields.{fieldsOf}
-use Rattle.text_line.specs.ShownLine.{outside, longestLine}
+use Rattle.shown_line.specs.ShownLine.{outside, longestLine}
 use Rattle.scan.specs.Scan.{Scanned, First, ends, finds, first, passing, handing, holding, scan}
 use Rattle.scan.specs.Carry.{steps, carriedAfter}
 use Rattle.search.specs.Search.{limitsOf, verdictOf, placeOf}

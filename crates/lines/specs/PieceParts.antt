@@ -9,7 +9,7 @@ use Rattle.setup.specs.Setup.{rulingOn, lengthOf}
 use Rattle.setup.specs.declared.Setup.{Setup}
 use Rattle.setup.specs.declared.Ruling.the-variants.{Accepted}
 use Rattle.setup.specs.Sensor.{sensorOf}
-use Rattle.text_line.specs.ShownLine.{longestLine}
+use Rattle.shown_line.specs.ShownLine.{longestLine}
 use Rattle.text.specs.TextLine.{shownBy}
 use Rattle.scan.specs.Scan.{Scanned, scan}
 use Rattle.scan.specs.Stream.{joined}

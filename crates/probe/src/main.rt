@@ -40,7 +40,7 @@ use shown::put_session;
 use shown::put_setup;
 use shown::put_text;
 use shown::put_written;
-use text_line::Written;
+use shown_line::Written;
 use whole_piece::Batch;
 use whole_piece::Received;
 ghost use mathlib.Core.Path.{_≡_};

@@ -16,7 +16,7 @@ use motion::Totals;
 use session::Session;
 use setup::Ruling;
 use setup::Setup;
-use text_line::Written;
+use shown_line::Written;
 use whole_piece::Received;
 use wire::Fields;
 

@@ -15,9 +15,9 @@ use Rattle.setup_line.proofs.LineAnswers.{line-number, line-numbers, refused-ze
 use Rattle.gaps.specs.declared.Gap.{Gap}
 use Rattle.motion.specs.declared.Totals.{Totals}
 use Rattle.motion.proofs.NineAxes.{none-at}
-use Rattle.text_line.specs.declared.Shown.{Shown}
-use Rattle.text_line.specs.ShownLine.{writtenNumber}
-use Rattle.text_line.proofs.ShownLaws.{shown-number, shown-numbers, shown-keeps, shown-whole, shown-enough, shown-short}
+use Rattle.shown_line.specs.declared.Shown.{Shown}
+use Rattle.shown_line.specs.ShownLine.{writtenNumber}
+use Rattle.shown_line.proofs.ShownLaws.{shown-number, shown-numbers, shown-keeps, shown-whole, shown-enough, shown-short}
 use Rattle.scan.specs.Calls.{Report}
 use Rattle.session.specs.Session.{freshOf, opening}
 use Rattle.session.specs.declared.Session.{Session}

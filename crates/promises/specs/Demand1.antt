@@ -16,8 +16,8 @@ use Rattle.setup_line.specs.SetupLine as line
 use Rattle.gaps.specs.declared.Gap.{Gap}
 use Rattle.motion.specs.Totals.{noAxis, axisAt}
 use Rattle.motion.specs.declared.Totals.{Totals}
-use Rattle.text_line.specs.ShownLine.{shownText, outside, shownRules, writtenNumber, writtenBytes, shownAnswer, shownBuffer}
-use Rattle.text_line.specs.declared.Shown.{Shown}
+use Rattle.shown_line.specs.ShownLine.{shownText, outside, shownRules, writtenNumber, writtenBytes, shownAnswer, shownBuffer}
+use Rattle.shown_line.specs.declared.Shown.{Shown}
 use Rattle.text.specs.TextLine.{lineText, lineRules, lineAnswer, lineBuffer}
 use Rattle.scan.specs.Calls.{Report}
 use Rattle.session.specs.Session.{opening}

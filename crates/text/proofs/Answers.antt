@@ -13,10 +13,10 @@ use Rattle.setup.proofs.Sensors.{sensor-groups}
 use Rattle.gaps.specs.declared.Gap.{Gap}
 use Rattle.motion.specs.declared.Totals.{Totals}
 use Rattle.motion.proofs.AcceptedSetup.{accepted-kept}
-use Rattle.text_line.specs.ShownLine.{shownRules, shownRuling, shownAnswer, shownBuffer}
-use Rattle.text_line.specs.declared.Shown.{Shown}
-use Rattle.text_line.specs.declared.Written.{Written}
-use Rattle.text_line.specs.declared.Written.the-variants.{Refused}
+use Rattle.shown_line.specs.ShownLine.{shownRules, shownRuling, shownAnswer, shownBuffer}
+use Rattle.shown_line.specs.declared.Shown.{Shown}
+use Rattle.shown_line.specs.declared.Written.{Written}
+use Rattle.shown_line.specs.declared.Written.the-variants.{Refused}
 use Rattle.text.specs.TextLine.{shownBy, shownOf, lineText, lineRules, lineRuling, lineAnswer, lineBuffer}
 
 -- the sensor that an accepted setup describes shows what the setup shows

@@ -13,8 +13,8 @@ use Rattle.motion.specs.Totals.{groupsKept}
 use Rattle.motion.specs.declared.Total.{Total}
 use Rattle.motion.specs.declared.GroupTotals.{GroupTotals}
 use Rattle.motion.specs.declared.Totals.{Totals}
-use Rattle.text_line.specs.Decimal.{digitsBy, digitsFrom, digits, decimal}
-use Rattle.text_line.specs.ShownLine.{groupFields, groupsFields, shownFields, parted, shownText, longestLine}
+use Rattle.shown_line.specs.Decimal.{digitsBy, digitsFrom, digits, decimal}
+use Rattle.shown_line.specs.ShownLine.{groupFields, groupsFields, shownFields, parted, shownText, longestLine}
 use Rattle.text.specs.TextLine.{shownBy, lineText}
 
 -- ---- the example setup, 1000,90,0,3,0,0,21,0,0, with gyro X 8388600 and then -8388600

@@ -19,11 +19,11 @@ use Rattle.setup.proofs.Refusals.{judge-numbers}
 use Rattle.setup.proofs.Rules.{none-applies, first-accepted, first-refused}
 use Rattle.gaps.specs.declared.Gap.{Gap}
 use Rattle.motion.specs.declared.Totals.{Totals}
-use Rattle.text_line.specs.ShownLine.{readingsFit, totalsWithin, outside, roomRules, shownRules, writtenNumber, writtenBytes, longestLine}
-use Rattle.text_line.specs.declared.Written.{Written}
-use Rattle.text_line.proofs.Answers.{inside}
-use Rattle.text_line.proofs.Longest.{MissedFits, shown-longest}
-use Rattle.text_line.proofs.ShownLaws.{refused-by, written-by, number-by, last-fourteen, last-numbers, shown-enough, shown-short}
+use Rattle.shown_line.specs.ShownLine.{readingsFit, totalsWithin, outside, roomRules, shownRules, writtenNumber, writtenBytes, longestLine}
+use Rattle.shown_line.specs.declared.Written.{Written}
+use Rattle.shown_line.proofs.Answers.{inside}
+use Rattle.shown_line.proofs.Longest.{MissedFits, shown-longest}
+use Rattle.shown_line.proofs.ShownLaws.{refused-by, written-by, number-by, last-fourteen, last-numbers, shown-enough, shown-short}
 use Rattle.text.specs.TextLine.{shownBy, lineText, lineRules, lineRuling, lineAnswer, lineBuffer}
 use Rattle.text.proofs.Answers.{accepted-answer}
 

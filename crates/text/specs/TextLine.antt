@@ -12,9 +12,9 @@ use Rattle.setup.specs.declared.Ruling.{Ruling}
 use Rattle.gaps.specs.declared.Gap.{Gap}
 use Rattle.motion.specs.Totals.{groupsKept, keptBy}
 use Rattle.motion.specs.declared.Totals.{Totals}
-use Rattle.text_line.specs.ShownLine.{shownText, shownRules, writtenBy, bufferBy}
-use Rattle.text_line.specs.declared.Shown.{Shown}
-use Rattle.text_line.specs.declared.Written.{Written}
+use Rattle.shown_line.specs.ShownLine.{shownText, shownRules, writtenBy, bufferBy}
+use Rattle.shown_line.specs.declared.Shown.{Shown}
+use Rattle.shown_line.specs.declared.Written.{Written}
 
 -- what a setup shows: the groups that it carries, and the totals of those that it keeps
 unfoldable pub shownBy : Setup → Shown

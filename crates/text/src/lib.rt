@@ -8,8 +8,8 @@ use setup::Described;
 use setup::Row;
 use setup::Setup;
 use setup::Units;
-use text_line::Shown;
-use text_line::Written;
+use shown_line::Shown;
+use shown_line::Written;
 
 // What is shown of a sensor, by what its datagrams carry and the units of the groups.
 pub fn shown_of(row: Row, units: Units) -> Shown

@@ -3,28 +3,18 @@ ghost use mathlib.Core.Path.{_≡_};
 ghost use mathlib.Core.List.{_∷_};
 ghost use Prim.Native.Nat.{_+_, _<_, _≤_};
 ghost use lib.ListN.{length};
-ghost use Rattle.text_line.specs.Decimal.{digits, decimal, lastThree};
-ghost use Rattle.text_line.specs.Putting.{Put, behind, headingText, roomAnswer, roomBuffer};
-ghost use Rattle.text_line.specs.ShownLine.{shownIf, missedField, axisFields, totalField, totalFields, groupFields, groupsFields, shownText};
-ghost use Rattle.text_line.specs.ShownLine.{rowFits, readingsFit, totalWithin, groupWithin, totalsWithin, outside};
-ghost use Rattle.text_line.specs.ShownLine.{shownAnswer, shownBuffer, longestLine};
+ghost use Rattle.shown_line.specs.Decimal.{digits, decimal, lastThree};
+ghost use Rattle.shown_line.specs.Putting.{Put, behind, headingText, roomAnswer, roomBuffer};
+ghost use Rattle.shown_line.specs.ShownLine.{shownIf, missedField, axisFields, totalField, totalFields, groupFields, groupsFields, shownText};
+ghost use Rattle.shown_line.specs.ShownLine.{rowFits, readingsFit, totalWithin, groupWithin, totalsWithin, outside};
+ghost use Rattle.shown_line.specs.ShownLine.{shownAnswer, shownBuffer, longestLine};
 use gaps::Datagrams;
 use gaps::Gap;
 use motion::GroupTotals;
 use motion::Total;
 use motion::Totals;
-
-// The bytes of the line that was written, or the number that refused it.
-pub enum Written {
-    Line(usize),
-    Refused(u8),
-}
-
-// Which groups a line shows, and of which groups the totals: gyro, accelerometer, inclinometer. Totals of a group that isn't carried aren't shown.
-pub struct Shown {
-    pub carried: [bool; 3],
-    pub kept: [bool; 3],
-}
+use shown_line::Shown;
+use shown_line::Written;
 
 // The fields before the groups.
 struct Heading {

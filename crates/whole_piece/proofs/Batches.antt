@@ -12,7 +12,7 @@ use Rattle.setup.specs.Setup.{firstOf}
 use Rattle.setup.specs.declared.Ruling.{Ruling}
 use Rattle.setup.specs.declared.Ruling.the-variants.{Accepted, Refused}
 use Rattle.setup.proofs.Rules.{first-accepted, first-refused}
-use Rattle.text_line.specs.ShownLine.{roomRules}
+use Rattle.shown_line.specs.ShownLine.{roomRules}
 use Rattle.admission.specs.Admission.{pieceRules, pieceRuling}
 use Rattle.admission.proofs.PieceRulings.{piece-numbers}
 use Rattle.session.specs.declared.Session.{Session}

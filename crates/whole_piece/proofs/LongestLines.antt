@@ -10,7 +10,7 @@ use Rattle.setup.specs.Setup.{rulingOn, lengthOf}
 use Rattle.setup.specs.declared.Setup.{Setup}
 use Rattle.setup.specs.declared.Ruling.the-variants.{Accepted}
 use Rattle.setup.proofs.Refusals.{accepted-length}
-use Rattle.text_line.specs.ShownLine.{longestLine}
+use Rattle.shown_line.specs.ShownLine.{longestLine}
 use Rattle.scan.specs.Stream.{Among, end, other, then}
 use Rattle.scan.specs.Carry.{steps, told}
 use Rattle.search.specs.Search.{isDatagram, limitsOf}

@@ -10,9 +10,8 @@ use native.Mathlib.Omega.{arith}
 use lib.Dec.{eqb, eqb·suc-zero}
 use lib.IntN.{ℤ, pos}
 use lib.ListN.{length, getD}
-use Rattle.integers.specs.Ranges.{within}
 use Rattle.integers.proofs.Folding.{InRange}
-use Rattle.integers.proofs.Ranges.{le-within, range-inReading}
+use Rattle.integers.proofs.Ranges.{range-inReading}
 use Rattle.setup.specs.Setup.{rulingOn, lengthOf}
 use Rattle.setup.specs.declared.Setup.{Setup}
 use Rattle.setup.specs.declared.Ruling.the-variants.{Accepted}
@@ -22,11 +21,12 @@ use Rattle.wire.proofs.FieldRanges.{Fitting, fields-fit}
 use Rattle.gaps.specs.Gaps.{datagrams, gapWith, stepAt, elapsed, missedAfter, missedAt, gapAt}
 use Rattle.gaps.specs.declared.Gap.{Gap}
 use Rattle.gaps.proofs.Gaps.{elapsed-range}
-use Rattle.motion.specs.Totals.{groupsKept, axisAt, totalsOf}
+use Rattle.motion.specs.Totals.{groupsKept, axisAt, totalOf, totalsOf}
 use Rattle.motion.specs.declared.Axes.{Axes}
-use Rattle.text_line.specs.ShownLine.{shownText, longestLine, rowFits, readingsFit, totalsWithin, outside}
+use Rattle.shown_line.specs.ShownLine.{shownText, longestLine, rowFits, readingsFit, totalWithin, totalsWithin, outside}
 use Rattle.text.specs.TextLine.{shownBy}
-use Rattle.text_line.proofs.Longest.{MissedFits, shown-longest}
+use Rattle.shown_line.proofs.Answers.{small-passes}
+use Rattle.shown_line.proofs.Longest.{MissedFits, shown-longest}
 use Rattle.scan.specs.Scan.{Scanned, passing, handing, holding}
 use Rattle.scan.specs.Carry.{steps, told}
 use Rattle.integers.proofs.Booleans.{and-true}
@@ -72,8 +72,8 @@ readings-fit readings h =
 totals-small : (u : Setup) (n : ℕ) (a : Axes) → axesRight u n a ≡ true → n ≤ 2 ^ 30 → totalsWithin (totalsOf a) ≡ true
 unfolding totalsWithin totalsOf
 totals-small u n a e h =
-    let small : (g k : ℕ) → g < 3 → k < 3 → within (2 ^ 53) (axisAt a g k .total) ≡ true =
-    λ g k i j. le-within (2 ^ 53) (axisAt a g k .total) (omega (arith, axes-at (groupsKept u) n a e g k i j .total))
+    let small : (g k : ℕ) → g < 3 → k < 3 → totalWithin (totalOf (axisAt a g k)) ≡ true =
+    λ g k i j. small-passes (totalOf (axisAt a g k)) (omega (arith, axes-at (groupsKept u) n a e g k i j .total))
     in
     all-three
     (all-three (small 0 0 (omega arith) (omega arith)) (small 0 1 (omega arith) (omega arith)) (small 0 2 (omega arith) (omega arith)))

@@ -7,9 +7,9 @@ use Rattle.setup.specs.Setup.{Rule, firstOf}
 use Rattle.setup.specs.declared.Setup.{Setup}
 use Rattle.setup.specs.declared.Ruling as ruling
 use Rattle.setup.specs.declared.Ruling.{Ruling}
-use Rattle.text_line.specs.ShownLine.{shownText, roomRules, longestLine}
+use Rattle.shown_line.specs.ShownLine.{shownText, roomRules, longestLine}
 use Rattle.text.specs.TextLine.{shownBy}
-use Rattle.text_line.specs.declared.Shown.{Shown}
+use Rattle.shown_line.specs.declared.Shown.{Shown}
 use Rattle.scan.specs.Scan.{Scanned, scan}
 use Rattle.scan.specs.Stream.{joined}
 use Rattle.scan.specs.Carry.{told, carriedAfter}

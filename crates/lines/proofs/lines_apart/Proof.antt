@@ -16,7 +16,7 @@ within-apart c =
     let s = c .before .before .before .before .before .before .before .before .before .before in
     let m = c .before .before .before .before .before .before .all-lines in
     let a = c .before .before .answer .given in
-    omega (arith, apart-within (s .args .session) (s .args .piece .now) (m .ensures) (a .0 .0) (a .1))
+    apart-within (s .args .session) (s .args .piece .now) (m .ensures) (a .0 .0) (a .1)
 
 copied-length :
     (c : tie.Else1)

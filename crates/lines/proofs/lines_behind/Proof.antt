@@ -7,7 +7,7 @@ use native.Mathlib.Omega.{arith}
 use borrow.Author.Needs.{needs}
 use lib.ListN.{length}
 use lib.Seq.{sets, length-sets}
-use Rattle.text_line.specs.ShownLine.{outside, longestLine}
+use Rattle.shown_line.specs.ShownLine.{outside, longestLine}
 use Rattle.search.specs.Search.{limitsOf}
 use Rattle.admission.proofs.PieceRulings.{Admitted, admitted}
 use Rattle.feeding.specs.declared.Reply.{Reply}

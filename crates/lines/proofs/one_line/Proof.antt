@@ -12,7 +12,7 @@ use Rattle.wire.specs.Fields.{Contents, contentsOf, fieldsOf}
 use Rattle.wire.proofs.FieldBytes.{sensor-fields}
 use Rattle.gaps.proofs.AcceptedSetup.{accepted-gap}
 use Rattle.motion.specs.Totals.{groupsKept, totalsOf}
-use Rattle.text_line.specs.ShownLine.{shownText, outside, longestLine}
+use Rattle.shown_line.specs.ShownLine.{shownText, outside, longestLine}
 use Rattle.text.specs.TextLine.{shownBy}
 use Rattle.search.proofs.Datagrams.{datagram-length}
 use Rattle.history.specs.History.{awaitsFirst, gapNext, historyNext, advanced}

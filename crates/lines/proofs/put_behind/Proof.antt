@@ -6,9 +6,9 @@ use native.Mathlib.Omega.{arith}
 use borrow.Author.Needs.{needs}
 use borrow.Rule.Slice.PartMut.{putMid}
 use lib.ListN.{length, take, drop, length-drop}
-use Rattle.text_line.specs.ShownLine.{shownText}
-use Rattle.text_line.specs.declared.Written.the-variants.{Line}
-use Rattle.text_line.proofs.ShownLaws.{shown-written, line-length}
+use Rattle.shown_line.specs.ShownLine.{shownText}
+use Rattle.shown_line.specs.declared.Written.the-variants.{Line}
+use Rattle.shown_line.proofs.ShownLaws.{shown-written, line-length}
 use Rattle.integers.proofs.Buffers.{to-end, put-part}
 use Rattle.lines.proofs.put_behind.Statement.{statement}
 use Rattle.lines.proofs.put_behind.Tie as tie

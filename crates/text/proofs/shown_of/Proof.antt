@@ -4,7 +4,7 @@ use mathlib.Core.Bool.{Bool}
 use mathlib.Core.List.{List}
 use Rattle.setup.specs.Layout.{groupsOf}
 use Rattle.text.specs.TextLine.{shownOf}
-use Rattle.text_line.specs.declared.Shown.{Shown}
+use Rattle.shown_line.specs.declared.Shown.{Shown}
 use Rattle.text.proofs.shown_of.Statement.{statement}
 use Rattle.text.proofs.shown_of.Tie as tie
 

@@ -1,7 +1,7 @@
 use Prim.Native.Nat.{ℕ, _<_}
 use native.Mathlib.Omega.{arith}
 use mathlib.Core.Path.{_∙_}
-use Rattle.text_line.proofs.Putting.{room-thousands, room-three, then-three}
+use Rattle.shown_line.proofs.Putting.{room-thousands, room-three, then-three}
 use borrow.Fn.Kinds.{In}
 use borrow.Fn.PlainCycle.{Measures, is, falls, and}
 use Rattle.text_line.proofs.put_digits.Reads as put-digits

@@ -4,8 +4,8 @@ use mathlib.Core.List.{List, _++_}
 use Prim.Native.Nat.{ℕ}
 use lib.ListN.{length, drop}
 use lib.Seq.{take-length}
-use Rattle.text_line.specs.declared.Written.the-variants.{Line}
-use Rattle.text_line.proofs.Answers.{room-short, room-enough}
+use Rattle.shown_line.specs.declared.Written.the-variants.{Line}
+use Rattle.shown_line.proofs.Answers.{room-short, room-enough}
 use Rattle.text_line.proofs.copy_line.Statement.{statement}
 use Rattle.text_line.proofs.copy_line.Tie as tie
 

@@ -1,5 +1,5 @@
 use borrow.Author.Needs.{needs}
-use Rattle.text_line.specs.ShownLine.{outside}
+use Rattle.shown_line.specs.ShownLine.{outside}
 use Rattle.text_line.proofs.outside.Statement.{statement}
 use Rattle.text_line.proofs.outside.Tie as tie
 

@@ -3,12 +3,12 @@ use mathlib.Core.List.{List, [], _∷_}
 use Prim.Native.Nat.{ℕ, _+_, _≤_}
 use lib.IntN.{pos}
 use lib.ListN.{length, getD}
-use Rattle.text_line.specs.Decimal.{decimal}
-use Rattle.text_line.specs.Putting.{Put, behind}
-use Rattle.text_line.specs.ShownLine.{shownIf}
+use Rattle.shown_line.specs.Decimal.{decimal}
+use Rattle.shown_line.specs.Putting.{Put, behind}
+use Rattle.shown_line.specs.ShownLine.{shownIf}
 use Rattle.text_line.proofs.Elements.{element-casts, element-same}
-use Rattle.text_line.proofs.Fields.{room-field}
-use Rattle.text_line.proofs.Putting.{put-none, then-put, room-then}
+use Rattle.shown_line.proofs.Fields.{room-field}
+use Rattle.shown_line.proofs.Putting.{put-none, then-put, room-then}
 use Rattle.text_line.proofs.put_axes.Statement.{statement}
 use Rattle.text_line.proofs.put_axes.Tie as tie
 

@@ -3,11 +3,11 @@ use mathlib.Core.Bool.{_&&_}
 use mathlib.Core.List.{List, _∷_}
 use Prim.Native.Nat.{ℕ, _+_, _≤_}
 use lib.ListN.{length}
-use Rattle.text_line.specs.Decimal.{digits}
-use Rattle.text_line.specs.Putting.{behind}
-use Rattle.text_line.specs.ShownLine.{shownIf, axisFields, totalFields, groupFields}
-use Rattle.text_line.proofs.Fields.{room-field, room-fields, room-more, then-fields}
-use Rattle.text_line.proofs.Putting.{then-put, room-then}
+use Rattle.shown_line.specs.Decimal.{digits}
+use Rattle.shown_line.specs.Putting.{behind}
+use Rattle.shown_line.specs.ShownLine.{shownIf, axisFields, totalFields, groupFields}
+use Rattle.shown_line.proofs.Fields.{room-field, room-fields, room-more, then-fields}
+use Rattle.shown_line.proofs.Putting.{then-put, room-then}
 use Rattle.text_line.proofs.put_group.Statement.{statement}
 use Rattle.text_line.proofs.put_group.Tie as tie
 

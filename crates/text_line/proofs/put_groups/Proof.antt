@@ -3,9 +3,9 @@ use mathlib.Core.Bool.{false}
 use mathlib.Core.List.{List, [], _++_}
 use Prim.Native.Nat.{ℕ, _+_, _≤_}
 use lib.ListN.{length, getD}
-use Rattle.text_line.specs.Putting.{behind}
-use Rattle.text_line.specs.ShownLine.{groupFields, groupsFields}
-use Rattle.text_line.proofs.Fields.{room-fields, room-more, then-fields}
+use Rattle.shown_line.specs.Putting.{behind}
+use Rattle.shown_line.specs.ShownLine.{groupFields, groupsFields}
+use Rattle.shown_line.proofs.Fields.{room-fields, room-more, then-fields}
 use Rattle.text_line.proofs.put_groups.Statement.{statement}
 use Rattle.text_line.proofs.put_groups.Tie as tie
 

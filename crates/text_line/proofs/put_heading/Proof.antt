@@ -3,11 +3,11 @@ use mathlib.Core.List.{List, [], _∷_, _++_}
 use Prim.Native.Nat.{ℕ, _+_, _≤_}
 use native.Mathlib.Omega.{arith}
 use lib.ListN.{length}
-use Rattle.text_line.specs.Decimal.{digits}
-use Rattle.text_line.specs.Putting.{behind}
-use Rattle.text_line.specs.ShownLine.{missedField}
-use Rattle.text_line.proofs.Fields.{room-field}
-use Rattle.text_line.proofs.Putting.{put-none, then-put, room-first, room-then}
+use Rattle.shown_line.specs.Decimal.{digits}
+use Rattle.shown_line.specs.Putting.{behind}
+use Rattle.shown_line.specs.ShownLine.{missedField}
+use Rattle.shown_line.proofs.Fields.{room-field}
+use Rattle.shown_line.proofs.Putting.{put-none, then-put, room-first, room-then}
 use Rattle.text_line.proofs.put_heading.Statement.{statement}
 use Rattle.text_line.proofs.put_heading.Tie as tie
 

@@ -4,10 +4,10 @@ use Prim.Native.Nat.{ℕ, _+_, _≤_}
 use native.Mathlib.Nat.{zero-add}
 use native.Mathlib.Omega.{arith}
 use lib.ListN.{length, length-set}
-use Rattle.text_line.specs.Putting.{behind, headingText}
-use Rattle.text_line.specs.ShownLine.{groupsFields, shownText}
-use Rattle.text_line.proofs.Fields.{line-text}
-use Rattle.text_line.proofs.Putting.{put-byte, then-put, room-first, room-then}
+use Rattle.shown_line.specs.Putting.{behind, headingText}
+use Rattle.shown_line.specs.ShownLine.{groupsFields, shownText}
+use Rattle.shown_line.proofs.Fields.{line-text}
+use Rattle.shown_line.proofs.Putting.{put-byte, then-put, room-first, room-then}
 use Rattle.text_line.proofs.put_line.Statement.{statement}
 use Rattle.text_line.proofs.put_line.Tie as tie
 

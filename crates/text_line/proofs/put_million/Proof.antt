@@ -1,6 +1,6 @@
 use borrow.Author.Needs.{needs}
 use native.Mathlib.Omega.{arith}
-use Rattle.text_line.proofs.Putting.{room-thousands, room-three, then-three}
+use Rattle.shown_line.proofs.Putting.{room-thousands, room-three, then-three}
 use Rattle.text_line.proofs.put_million.Statement.{statement}
 use Rattle.text_line.proofs.put_million.Tie as tie
 

@@ -2,8 +2,8 @@ use borrow.Author.Needs.{needs}
 use mathlib.Core.Path.{ap}
 use native.Mathlib.Omega.{arith}
 use lib.ListN.{length, length-set}
-use Rattle.text_line.specs.ShownLine.{missedField}
-use Rattle.text_line.proofs.Putting.{put-two}
+use Rattle.shown_line.specs.ShownLine.{missedField}
+use Rattle.shown_line.proofs.Putting.{put-two}
 use Rattle.text_line.proofs.put_missed.Statement.{statement}
 use Rattle.text_line.proofs.put_missed.Tie as tie
 

@@ -2,10 +2,10 @@ use borrow.Author.Needs.{needs}
 use mathlib.Core.List.{List, [], _∷_}
 use Prim.Native.Nat.{ℕ, _+_, _≤_}
 use lib.ListN.{length}
-use Rattle.text_line.specs.Putting.{behind}
-use Rattle.text_line.specs.ShownLine.{totalField}
-use Rattle.text_line.proofs.Fields.{room-field}
-use Rattle.text_line.proofs.Putting.{put-none, then-put, room-then}
+use Rattle.shown_line.specs.Putting.{behind}
+use Rattle.shown_line.specs.ShownLine.{totalField}
+use Rattle.shown_line.proofs.Fields.{room-field}
+use Rattle.shown_line.proofs.Putting.{put-none, then-put, room-then}
 use Rattle.text_line.proofs.put_totals.Statement.{statement}
 use Rattle.text_line.proofs.put_totals.Tie as tie
 

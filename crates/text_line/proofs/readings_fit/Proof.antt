@@ -1,5 +1,5 @@
 use borrow.Author.Needs.{needs}
-use Rattle.text_line.specs.ShownLine.{readingsFit}
+use Rattle.shown_line.specs.ShownLine.{readingsFit}
 use Rattle.text_line.proofs.readings_fit.Statement.{statement}
 use Rattle.text_line.proofs.readings_fit.Tie as tie
 

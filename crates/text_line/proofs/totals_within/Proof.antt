@@ -1,5 +1,5 @@
 use borrow.Author.Needs.{needs}
-use Rattle.text_line.specs.ShownLine.{totalsWithin}
+use Rattle.shown_line.specs.ShownLine.{totalsWithin}
 use Rattle.text_line.proofs.totals_within.Statement.{statement}
 use Rattle.text_line.proofs.totals_within.Tie as tie
 

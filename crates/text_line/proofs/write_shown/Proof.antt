@@ -14,9 +14,9 @@ use Rattle.gaps.proofs.Gap as gap
 use Rattle.gaps.proofs.Gap.Laws as laws
 use Rattle.gaps.specs.declared.Gap.{Gap}
 use Rattle.gaps.specs.declared.Gap.the-variants.{Missed, OffStep}
-use Rattle.text_line.specs.ShownLine.{shownText, outside, longestLine}
-use Rattle.text_line.proofs.Answers.{inside, values-refused, apart-written, put-written}
-use Rattle.text_line.proofs.Longest.{MissedFits, shown-longest}
+use Rattle.shown_line.specs.ShownLine.{shownText, outside, longestLine}
+use Rattle.shown_line.proofs.Answers.{inside, values-refused, apart-written, put-written}
+use Rattle.shown_line.proofs.Longest.{MissedFits, shown-longest}
 use Rattle.text_line.proofs.write_shown.Statement.{statement}
 use Rattle.text_line.proofs.write_shown.Tie as tie
 

@@ -16,11 +16,11 @@ use Rattle.setup.specs.declared.Ruling.{Ruling}
 use Rattle.setup.proofs.Rules.{none-applies, first-within}
 use Rattle.gaps.specs.declared.Gap.{Gap}
 use Rattle.motion.specs.declared.Totals.{Totals}
-use Rattle.text_line.specs.ShownLine.{shownText, outside, roomRules, shownRules, writtenBy, writtenNumber, writtenBytes, shownRuling, shownAnswer, shownBuffer}
-use Rattle.text_line.specs.declared.Shown.{Shown}
-use Rattle.text_line.specs.declared.Written.{Written}
-use Rattle.text_line.specs.declared.Written.the-variants.{Line, Refused}
-use Rattle.text_line.proofs.Answers.{room-short, room-enough, room-left}
+use Rattle.shown_line.specs.ShownLine.{shownText, outside, roomRules, shownRules, writtenBy, writtenNumber, writtenBytes, shownRuling, shownAnswer, shownBuffer}
+use Rattle.shown_line.specs.declared.Shown.{Shown}
+use Rattle.shown_line.specs.declared.Written.{Written}
+use Rattle.shown_line.specs.declared.Written.the-variants.{Line, Refused}
+use Rattle.shown_line.proofs.Answers.{room-short, room-enough, room-left}
 
 -- ---- from an answer to the ruling
 

@@ -6,9 +6,9 @@ use lib.ListN.{length}
 use lib.Seq.{sets}
 use Rattle.setup.specs.Setup.{firstOf}
 use Rattle.gaps.specs.declared.Gap.{Gap}
-use Rattle.text_line.specs.Decimal.{digits}
-use Rattle.text_line.specs.ShownLine.{missedField, roomRules, writtenBy, bufferBy}
-use Rattle.text_line.specs.declared.Written.{Written}
+use Rattle.shown_line.specs.Decimal.{digits}
+use Rattle.shown_line.specs.ShownLine.{missedField, roomRules, writtenBy, bufferBy}
+use Rattle.shown_line.specs.declared.Written.{Written}
 
 -- `after` is `before` with the text at `at` and every other byte as it was, and `end` is the place behind the text
 pub record Put (before : List ℕ) (at : ℕ) (text after : List ℕ) (end : ℕ) : Type 0 where

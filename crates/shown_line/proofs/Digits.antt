@@ -15,7 +15,7 @@ use lib.WfN.{Nat·lt-wfRel}
 use Rattle.integers.proofs.Booleans.{and-split, and-true}
 use Rattle.integers.proofs.Parts.{posPart, negPart}
 use Rattle.setup_line.specs.SetupLine.{isDigit, digitValue, allDigits, decimalFrom}
-use Rattle.text_line.specs.Decimal.{digitsBy, digitsFrom, digits, decimal, lastThree}
+use Rattle.shown_line.specs.Decimal.{digitsBy, digitsFrom, digits, decimal, lastThree}
 
 -- ---- the two equations
 

@@ -16,10 +16,10 @@ use Rattle.motion.specs.Totals.{greatestTotal}
 use Rattle.motion.specs.declared.Total.{Total}
 use Rattle.motion.specs.declared.GroupTotals.{GroupTotals}
 use Rattle.motion.specs.declared.Totals.{Totals}
-use Rattle.text_line.specs.Decimal.{digits, decimal}
-use Rattle.text_line.specs.declared.Shown.{Shown}
-use Rattle.text_line.specs.declared.Written.{Written}
-use Rattle.text_line.specs.declared.Written.the-variants.{Line, Refused}
+use Rattle.shown_line.specs.Decimal.{digits, decimal}
+use Rattle.shown_line.specs.declared.Shown.{Shown}
+use Rattle.shown_line.specs.declared.Written.{Written}
+use Rattle.shown_line.specs.declared.Written.the-variants.{Line, Refused}
 
 -- ---- the fields
 

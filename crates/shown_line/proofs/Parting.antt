@@ -15,10 +15,10 @@ use Rattle.gaps.specs.declared.Gap.the-variants.{Missed, OffStep}
 use Rattle.motion.specs.declared.Total.{Total}
 use Rattle.motion.specs.declared.GroupTotals.{GroupTotals}
 use Rattle.motion.specs.declared.Totals.{Totals}
-use Rattle.text_line.specs.Decimal.{digits, decimal}
-use Rattle.text_line.specs.ShownLine.{shownIf, missedField, totalField, groupFields, groupsFields, shownFields, parted}
-use Rattle.text_line.specs.declared.Shown.{Shown}
-use Rattle.text_line.proofs.Digits.{digits-ind}
+use Rattle.shown_line.specs.Decimal.{digits, decimal}
+use Rattle.shown_line.specs.ShownLine.{shownIf, missedField, totalField, groupFields, groupsFields, shownFields, parted}
+use Rattle.shown_line.specs.declared.Shown.{Shown}
+use Rattle.shown_line.proofs.Digits.{digits-ind}
 
 -- no byte of a text, and of some fields, is x
 unfoldable pub free : ℕ → List ℕ → Bool

@@ -8,9 +8,9 @@ use native.Mathlib.Omega.{arith}
 use lib.ListN.{length, length-append, set}
 use lib.Seq.{length-sets}
 use Rattle.integers.proofs.Buffers.{sets-append}
-use Rattle.text_line.specs.Decimal.{digits, lastThree}
-use Rattle.text_line.specs.Putting.{Put}
-use Rattle.text_line.proofs.Digits.{digits-more}
+use Rattle.shown_line.specs.Decimal.{digits, lastThree}
+use Rattle.shown_line.specs.Putting.{Put}
+use Rattle.shown_line.proofs.Digits.{digits-more}
 
 -- nothing
 pub put-none : {b : List ℕ} {at : ℕ} → Put b at [] b at

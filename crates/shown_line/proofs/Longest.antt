@@ -15,12 +15,12 @@ use Rattle.gaps.specs.declared.Gap.the-variants.{Missed, OffStep}
 use Rattle.motion.specs.declared.Total.{Total}
 use Rattle.motion.specs.declared.GroupTotals.{GroupTotals}
 use Rattle.motion.specs.declared.Totals.{Totals}
-use Rattle.text_line.specs.Decimal.{digits, decimal}
-use Rattle.text_line.specs.Putting.{behind, headingText}
-use Rattle.text_line.specs.ShownLine.{shownIf, missedField, axisFields, totalField, totalFields, groupFields, groupsFields, shownText, rowFits, readingsFit, totalWithin, groupWithin, totalsWithin, longestLine}
-use Rattle.text_line.specs.declared.Shown.{Shown}
-use Rattle.text_line.proofs.Digits.{digits-at-most}
-use Rattle.text_line.proofs.Fields.{behind-append, line-text}
+use Rattle.shown_line.specs.Decimal.{digits, decimal}
+use Rattle.shown_line.specs.Putting.{behind, headingText}
+use Rattle.shown_line.specs.ShownLine.{shownIf, missedField, axisFields, totalField, totalFields, groupFields, groupsFields, shownText, rowFits, readingsFit, totalWithin, groupWithin, totalsWithin, longestLine}
+use Rattle.shown_line.specs.declared.Shown.{Shown}
+use Rattle.shown_line.proofs.Digits.{digits-at-most}
+use Rattle.shown_line.proofs.Fields.{behind-append, line-text}
 
 -- ---- fields
 

@@ -1,0 +1,4 @@
+-- The text line by what is shown.
+pub mod Decimal
+pub mod ShownLine
+pub mod Putting
