@@ -1,7 +1,7 @@
--- Two tests at once: what each of them gave, from what both gave together, and the other way. Assumes nothing.
+-- Two or three tests at once: what each of them gave, from what they gave together, and the other way. Assumes nothing.
 use mathlib.Core.Path.{_≡_, refl}
 use mathlib.Core.Bool.{Bool, true, false, _&&_, _||_}
-use Prim.Native.Nat.{ℕ}
+use Prim.Native.Nat.{ℕ, zero, suc, _<_}
 use native.Mathlib.Omega.{arith}
 
 pub and-split : (s t : Bool) → (s && t) ≡ true → (s ≡ true) × (t ≡ true)
@@ -10,6 +10,16 @@ and-split false t e = let z : _≡_ {A = ℕ} 0 1 = cc in let w : ⊥ = omega ar
 
 pub and-true : {s t : Bool} → s ≡ true → t ≡ true → s && t ≡ true
 and-true p q = rw (p, q)
+
+-- three tests, by their place
+pub three-split : (f : ℕ → Bool) → (f 0 && f 1 && f 2) ≡ true → (k : ℕ) → k < 3 → f k ≡ true
+three-split f e zero h = and-split (f 0) (f 1) (and-split (f 0 && f 1) (f 2) e .0) .0
+three-split f e (suc zero) h = and-split (f 0) (f 1) (and-split (f 0 && f 1) (f 2) e .0) .1
+three-split f e (suc (suc zero)) h = and-split (f 0 && f 1) (f 2) e .1
+three-split f e (suc (suc (suc k))) h = absurd (omega arith)
+
+pub three-true : (f : ℕ → Bool) → ((k : ℕ) → k < 3 → f k ≡ true) → (f 0 && f 1 && f 2) ≡ true
+three-true f h = and-true (and-true (h 0 (omega arith)) (h 1 (omega arith))) (h 2 (omega arith))
 
 pub or-split : (s t : Bool) → (s || t) ≡ false → (s ≡ false) × (t ≡ false)
 or-split false t e = (refl, e)

@@ -40,6 +40,7 @@ use Rattle.gaps.proofs.Gaps.{elapsed-back, elapsed-range, missed-steps, off-ste
 use Rattle.motion.proofs.AcceptedSetup.{integrated-kept, other-not-kept}
 use Rattle.motion.proofs.Status.{unfit-all, unfit-named, fit-unnamed, fit-clear}
 use Rattle.doubles.proofs.Starred.{starred}
+use Rattle.shown_line.proofs.Thirteen.{inside-passes, passes-inside}
 use Rattle.search.specs.Search.{isDatagram}
 use Rattle.search.proofs.Datagrams.{datagram-parts, datagram-length}
 use Rattle.promises.specs.PaperRules.{MadeUp, PaperRules}
@@ -216,6 +217,8 @@ paper-rules =
       trigger-missed = trigger-none;
       kept = λ u e group h q. integrated-kept u (number-accepted u e) group h q;
       not-kept = λ u e group n. other-not-kept u (number-accepted u e) group n;
+      inside = inside-passes;
+      passes = passes-inside;
       not-above = floor-not-above;
       greatest = floor-greatest;
       folded = folded;

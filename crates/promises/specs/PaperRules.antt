@@ -1,5 +1,5 @@
 -- What the rules say that the other promises are stated by, as facts: so that a rule that is wrong in its definition and in the code alike is shut out
--- here (01, The setup line; Layout by identifier; The scan; Status, doubles, gaps; Totals; Bench cases).
+-- here (01, The setup line; Layout by identifier; The scan; Status, doubles, gaps; Totals; The text line; Bench cases).
 use Prim.Native.Nat.{ℕ, suc, _+_, _*_, _/_, _%_, _^_, _≤_, _<_}
 use mathlib.Core.Bool.{Bool, true, false, _||_, cond}
 use mathlib.Core.List.{List, [], _∷_, _++_}
@@ -22,7 +22,10 @@ use Rattle.wire.specs.Fields.{groups, temperatureSets, fieldsOf}
 use Rattle.gaps.specs.Gaps.{datagrams, elapsed, missedAt}
 use Rattle.motion.specs.Status.{isSet, fit}
 use Rattle.motion.specs.Totals.{keeps}
+use Rattle.motion.specs.declared.Totals.{Totals}
 use Rattle.doubles.specs.Starred.{Starred}
+use Rattle.shown_line.specs.ShownLine.{outside}
+use Rattle.shown_line.specs.PassedLine.{PassesThirteen}
 use Rattle.search.specs.Search.{isDatagram}
 
 -- the bytes of an acceptable datagram of a setup: the identifier and what else stands before the check, as many as its line of the table says;
@@ -79,6 +82,11 @@ pub record PaperRules : Type 0 where
   -- totals are kept of the groups set to integrated, and of no other
   pub kept : (u : Setup) → setupNumber u ≡ none → (group : ℕ) → group < 3 → getD (u .units) group 0 ≡ 3 → keeps u group ≡ true
   pub not-kept : (u : Setup) → setupNumber u ≡ none → (group : ℕ) → (getD (u .units) group 0 ≡ 3 → ⊥) → keeps u group ≡ false
+  -- 13: it lets pass values of a line of which no clause fails, and no others
+  pub inside :
+      (ordinal : ℕ) (readings : List (List ℤ)) (totals : Totals) → outside ordinal readings totals ≡ false → PassesThirteen ordinal readings totals
+  pub passes :
+      (ordinal : ℕ) (readings : List (List ℤ)) (totals : Totals) → PassesThirteen ordinal readings totals → outside ordinal readings totals ≡ false
   -- rounded down is the greatest whole number not above
   pub not-above : (z : ℤ) (d : ℕ) → 0 < d → (floor z d *ℤ pos d) ≤ℤ z
   pub greatest : (z q : ℤ) (d : ℕ) → 0 < d → (q *ℤ pos d) ≤ℤ z → q ≤ℤ (floor z d)

@@ -2,22 +2,20 @@
 use mathlib.Core.Path.{_≡_, refl, ap, _∙_}
 use mathlib.Core.Bool.{true, false, not, _||_}
 use mathlib.Core.List.{List, _++_}
-use Prim.Native.Nat.{ℕ, _+_, _^_, _≤_, _<_}
+use Prim.Native.Nat.{ℕ, _+_, _≤_, _<_}
 use native.Mathlib.Nat.{zero-add}
 use native.Mathlib.Omega.{arith}
 use borrow.Author.Tests.{not-false, lt-ltb, le-ltb}
 use lib.Dec.{eqb}
-use lib.IntN.{ℤ, natAbs}
+use lib.IntN.{ℤ}
 use lib.ListN.{length, take, drop}
 use lib.Seq.{take-at}
 use Rattle.integers.proofs.Booleans.{or-split}
 use Rattle.integers.proofs.Buffers.{put-front}
-use Rattle.integers.proofs.Ranges.{within-true, le-within}
 use Rattle.gaps.specs.declared.Gap.{Gap}
-use Rattle.motion.specs.declared.Total.{Total}
 use Rattle.motion.specs.declared.Totals.{Totals}
 use Rattle.shown_line.specs.Putting.{Put, roomAnswer, roomBuffer}
-use Rattle.shown_line.specs.ShownLine.{shownText, readingsFit, totalWithin, totalsWithin, outside}
+use Rattle.shown_line.specs.ShownLine.{shownText, readingsFit, totalsWithin, outside}
 use Rattle.shown_line.specs.ShownLine.{shownRules, shownRuling, shownAnswer, shownBuffer}
 use Rattle.shown_line.specs.declared.Shown.{Shown}
 use Rattle.shown_line.specs.declared.Written.{Written}
@@ -40,13 +38,6 @@ module _ (b text : List ℕ) where
   room-enough h = rw (le-ltb (length b) (length text) h) (refl, refl)
 
 -- ---- the line
-
--- a total passes 13 exactly if it is at most 2^53 in size
-pub small-passes : (t : Total) → natAbs (t .steps) ≤ 2 ^ 53 → totalWithin t ≡ true
-small-passes t h = le-within (2 ^ 53) (t .steps) h
-
-pub passes-small : (t : Total) → totalWithin t ≡ true → natAbs (t .steps) ≤ 2 ^ 53
-passes-small t e = within-true (2 ^ 53) (t .steps) e
 
 -- what 13 doesn't refuse
 pub inside : (ordinal : ℕ) (readings : List (List ℤ)) (totals : Totals) → outside ordinal readings totals ≡ false

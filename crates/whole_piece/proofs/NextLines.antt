@@ -2,15 +2,14 @@
 use Prim.Native.Nat.{ℕ, suc, _+_, _*_, _-_, _/_, _%_, _^_, _≤_, _<_}
 use mathlib.Core.Option.{none, some}
 use mathlib.Core.Path.{_≡_, refl, sym, ap, subst}
-use mathlib.Core.Bool.{Bool, true, false, cond, _&&_, _||_}
+use mathlib.Core.Bool.{Bool, true, false, cond, _||_}
 use mathlib.Core.List.{List, [], _∷_, _++_}
 use native.Mathlib.Nat.{div-le-self, mul-le-mul-right}
 use native.Mathlib.Numerals.{add-one}
 use native.Mathlib.Omega.{arith}
-use lib.Dec.{eqb, eqb·suc-zero}
-use lib.IntN.{ℤ, pos}
+use lib.Dec.{eqb}
+use lib.IntN.{pos, natAbs}
 use lib.ListN.{length, getD}
-use Rattle.integers.proofs.Folding.{InRange}
 use Rattle.integers.proofs.Ranges.{range-inReading}
 use Rattle.setup.specs.Setup.{rulingOn, lengthOf}
 use Rattle.setup.specs.declared.Setup.{Setup}
@@ -21,15 +20,16 @@ use Rattle.wire.proofs.FieldRanges.{Fitting, fields-fit}
 use Rattle.gaps.specs.Gaps.{datagrams, gapWith, stepAt, elapsed, missedAfter, missedAt, gapAt}
 use Rattle.gaps.specs.declared.Gap.{Gap}
 use Rattle.gaps.proofs.Gaps.{elapsed-range}
-use Rattle.motion.specs.Totals.{groupsKept, axisAt, totalOf, totalsOf}
-use Rattle.motion.specs.declared.Axes.{Axes}
-use Rattle.shown_line.specs.ShownLine.{shownText, longestLine, rowFits, readingsFit, totalWithin, totalsWithin, outside}
+use Rattle.motion.specs.Totals.{groupsKept, totalsOf}
+use Rattle.motion.specs.declared.Total.{Total}
+use Rattle.motion.proofs.NineAxes.{total-at}
+use Rattle.shown_line.specs.ShownLine.{shownText, longestLine, outside}
 use Rattle.text.specs.TextLine.{shownBy}
-use Rattle.shown_line.proofs.Answers.{small-passes}
+use Rattle.shown_line.proofs.Answers.{inside}
+use Rattle.shown_line.proofs.Thirteen.{passes-inside}
 use Rattle.shown_line.proofs.Longest.{MissedFits, shown-longest}
 use Rattle.scan.specs.Scan.{Scanned, passing, handing, holding}
 use Rattle.scan.specs.Carry.{steps, told}
-use Rattle.integers.proofs.Booleans.{and-true}
 use Rattle.search.specs.Search.{isDatagram, limitsOf}
 use Rattle.search.proofs.Datagrams.{datagram-parts}
 use Rattle.history.specs.History.{awaitsFirst, historyNext}
@@ -54,31 +54,6 @@ gap-fits rate first previous counter = by (first || eqb rate 0)
     by : (t : Bool) → MissedFits (gapWith (cond t (some (datagrams 0)) (missedAfter (stepAt rate) (elapsed previous counter))))
     by true = omega arith
     by false = counted (eqb (elapsed previous counter .0 % stepAt rate .0) 0)
-
--- ---- readings of bytes are in 24 bits, and totals of few datagrams are small
-
-all-three : {a b c : Bool} → a ≡ true → b ≡ true → c ≡ true → (a && b && c) ≡ true
-all-three p q r = and-true (and-true p q) r
-
-row-fits : (row : List ℤ) → ((k : ℕ) → InRange (getD row k (pos 0))) → rowFits row ≡ true
-row-fits row h =
-    all-three (range-inReading (getD row 0 (pos 0)) (h 0)) (range-inReading (getD row 1 (pos 0)) (h 1)) (range-inReading (getD row 2 (pos 0)) (h 2))
-
-readings-fit : (readings : List (List ℤ)) → ((g k : ℕ) → InRange (getD (getD readings g []) k (pos 0))) → readingsFit readings ≡ true
-unfolding readingsFit
-readings-fit readings h =
-    all-three (row-fits (getD readings 0 []) (h 0)) (row-fits (getD readings 1 []) (h 1)) (row-fits (getD readings 2 []) (h 2))
-
-totals-small : (u : Setup) (n : ℕ) (a : Axes) → axesRight u n a ≡ true → n ≤ 2 ^ 30 → totalsWithin (totalsOf a) ≡ true
-unfolding totalsWithin totalsOf
-totals-small u n a e h =
-    let small : (g k : ℕ) → g < 3 → k < 3 → totalWithin (totalOf (axisAt a g k)) ≡ true =
-    λ g k i j. small-passes (totalOf (axisAt a g k)) (omega (arith, axes-at (groupsKept u) n a e g k i j .total))
-    in
-    all-three
-    (all-three (small 0 0 (omega arith) (omega arith)) (small 0 1 (omega arith) (omega arith)) (small 0 2 (omega arith) (omega arith)))
-    (all-three (small 1 0 (omega arith) (omega arith)) (small 1 1 (omega arith) (omega arith)) (small 1 2 (omega arith) (omega arith)))
-    (all-three (small 2 0 (omega arith) (omega arith)) (small 2 1 (omega arith) (omega arith)) (small 2 2 (omega arith) (omega arith)))
 
 -- ---- the line
 
@@ -121,21 +96,28 @@ module _ (u : Setup) (ok : rulingOn u ≡ Accepted) (x : History) (d : List ℕ)
     module _ (few : suc (x .datagrams .0) ≤ 2 ^ 30) where
       -- 13 doesn't refuse it
       pub line-inside : outside (suc (x .datagrams .0)) (inside-it .readings) (totalsOf (nextHistory .axes)) ≡ false
-      unfolding outside
       line-inside =
-          rw (
-            readings-fit (inside-it .readings) (fits .readings),
-            totals-small u (suc (x .datagrams .0)) (nextHistory .axes) axes-next few,
-            eqb·suc-zero (x .datagrams .0),
-          )
+          passes-inside (suc (x .datagrams .0)) (inside-it .readings) (totalsOf (nextHistory .axes))
+          (record {
+            fit = λ g k h l. range-inReading (getD (getD (inside-it .readings) g []) k (pos 0)) (fits .readings g k);
+            small =
+                λ g k h l.
+                omega (
+                  arith,
+                  ap (λ (t : Total). natAbs (t .steps)) (total-at (nextHistory .axes) g k h l),
+                  axes-at (groupsKept u) (suc (x .datagrams .0)) (nextHistory .axes) axes-next g k h l .total,
+                );
+            counted = λ e. omega arith;
+          })
 
       -- and it is short
       pub line-short : length (nextLine u x d) ≤ longestLine
       line-short =
+          let i = inside (suc (x .datagrams .0)) (inside-it .readings) (totalsOf (nextHistory .axes)) line-inside in
           subst (λ (t : List ℕ). length t ≤ longestLine) (sym next-line)
           (shown-longest (shownBy u) (suc (x .datagrams .0)) (inside-it .counter) (inside-it .latency) gapIn (inside-it .readings) (inside-it .statuses) (totalsOf (nextHistory .axes))
           (omega arith) (fits .counter) (fits .latency) (gap-fits (u .rate) (awaitsFirst x) (x .previous) (inside-it .counter)) (fits .statuses)
-          (readings-fit (inside-it .readings) (fits .readings)) (totals-small u (suc (x .datagrams .0)) (nextHistory .axes) axes-next few))
+          (i .0) (i .1))
 
 -- ---- the lines of what a scan gives
 
