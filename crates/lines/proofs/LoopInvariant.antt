@@ -29,8 +29,9 @@ use Rattle.feeding.specs.Feed.{consumer, sessionOf}
 use Rattle.feeding.proofs.BySetup.{after-datagram}
 use Rattle.whole_piece.specs.declared.Received.the-variants.{Lines}
 use Rattle.lines.specs.declared.Progress.{Progress}
+use Rattle.whole_piece.specs.Lines.{behindBy}
 use Rattle.whole_piece.specs.NextLines.{nextLine, textOf}
-use Rattle.lines.specs.PieceParts.{startOf, nextOf, stopped, behindBy, batchBy, Ready, scanAt, Finished, Answered, Permitted}
+use Rattle.lines.specs.PieceParts.{startOf, nextOf, stopped, batchBy, Ready, scanAt, Finished, Answered, Permitted}
 use Rattle.whole_piece.proofs.NextLines.{few-of, right-next, line-short, text-none, text-more}
 
 -- ---- the scan by what find tells

@@ -12,14 +12,13 @@ use Rattle.setup.specs.Sensor.{sensorOf}
 use Rattle.shown_line.specs.ShownLine.{longestLine}
 use Rattle.text.specs.TextLine.{shownBy}
 use Rattle.scan.specs.Scan.{Scanned, scan}
-use Rattle.scan.specs.Stream.{joined}
 use Rattle.scan.specs.Carry.{steps, carriedAfter}
 use Rattle.search.specs.Search.{limitsOf, rulesOf, verdictOf}
 use Rattle.history.specs.History.{greatestCount}
 use Rattle.admission.specs.Admission.{axesRight, pieceRuling}
 use Rattle.session.specs.declared.Session.{Session}
-use Rattle.feeding.specs.Feed.{consumer, SessionState, stateOf, sessionOf}
-use Rattle.whole_piece.specs.Lines.{roomFor}
+use Rattle.feeding.specs.Feed.{consumer, stateOf, sessionOf}
+use Rattle.whole_piece.specs.Lines.{behindBy, roomFor}
 use Rattle.whole_piece.specs.NextLines.{nextLine, textOf}
 use Rattle.whole_piece.specs.declared.Received.the-variants.{Lines}
 use Rattle.whole_piece.specs.declared.Batch.{Batch}
@@ -47,20 +46,6 @@ nextOf u x n d =
 -- behind n bytes passed over, where no datagram follows
 abbrev pub stopped : Progress → ℕ → Progress
 stopped x n = record { history = x .history; passed = x .passed + n; at = x .at + n; used = x .used }
-
--- what a session stands for behind n bytes, of which the scan is g
-abbrev pub behindBy : Session → Scanned → ℕ → SessionState
-behindBy s g n =
-    record {
-      scan =
-          record {
-            held = g .held;
-            handed = stateOf s .scan .handed + length (joined (g .datagrams));
-            passed = s .passed + g .passed;
-            fed = s .fed + n;
-          };
-      carried = carriedAfter (consumer (s .setup)) (stateOf s .carried) (g .datagrams);
-    }
 
 -- the answer, so many bytes being written before
 unfoldable pub batchBy : Session → ℕ → Scanned → ℕ → Batch

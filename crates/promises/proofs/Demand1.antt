@@ -32,6 +32,7 @@ use Rattle.text.proofs.LineLaws as text
 use Rattle.whole_piece.specs.Lines.{receivedNumber, linesAfter, linesIn}
 use Rattle.whole_piece.specs.declared.Batch.{Batch}
 use Rattle.whole_piece.proofs.Batches.{fourteen, fitting-lines, Way, turned-down, too-long, fitting, way, batch-numbers}
+use Rattle.whole_piece.proofs.LongestLines.{lines-enough}
 use Rattle.whole_piece.proofs.OneByOne.{run, one-by-one}
 use Rattle.whole_piece.proofs.BatchAnswers.{batch-number, batch-refused, batch-written}
 use Rattle.promises.specs.Demand1.{LineRead, SetupJudged, IsFresh, SessionOpened, PieceFed, LineWritten, ShownWritten, PieceReceived, Demand1}
@@ -103,12 +104,17 @@ module _ (s : Session) (p b : List ℕ) (long : length (s .held) ≡ 64) where
 piece-received : (s : Session) (p b : List ℕ) → PieceReceived s p b
 piece-received s p b =
     record {
-      number = batch-number s p b;
+      front =
+          record {
+            ruled = batch-number s p b;
+            refused = λ e. batch-refused s p b (sym (batch-number s p b) ∙ e) .2;
+            written = λ e. batch-written s p b (sym (batch-number s p b) ∙ e);
+          };
       numbers = λ e. batch-numbers s p b e;
-      refused = λ e. batch-refused s p b (sym (batch-number s p b) ∙ e);
-      written = λ e. batch-written s p b (sym (batch-number s p b) ∙ e);
+      refused = λ e. let r = batch-refused s p b (sym (batch-number s p b) ∙ e) in (r .0, r .1);
       fits = λ e l. ap (λ (x : Batch). receivedNumber (x .answer)) (fitting-lines s p b (piece.number-admits s (length p) e) l);
       too-long = λ e l. ap (λ (x : Batch). receivedNumber (x .answer)) (fourteen s p b (piece.number-admits s (length p) e) l);
+      room = λ e. lines-enough s p (piece.number-admits s (length p) e);
       same = λ long e c. same-as-fed s p b long (way s p b) e c;
       runs = λ long e. run-of s p b long (way s p b) e;
     }
@@ -117,10 +123,13 @@ module _ (b : List ℕ) (u : Setup) (ordinal counter latency : ℕ) (gap : Gap) 
   line-written : LineWritten b u ordinal counter latency gap readings statuses totals
   line-written =
       record {
-        number = text.answer-number b u ordinal counter latency gap readings statuses totals;
+        front =
+            record {
+              ruled = text.answer-number b u ordinal counter latency gap readings statuses totals;
+              refused = λ e. text.refused-keeps b u ordinal counter latency gap readings statuses totals e;
+              written = λ e. text.written-whole b u ordinal counter latency gap readings statuses totals e;
+            };
         numbers = λ e. text.answer-numbers b u ordinal counter latency gap readings statuses totals e;
-        refused = λ e. text.refused-keeps b u ordinal counter latency gap readings statuses totals e;
-        written = λ e. text.written-whole b u ordinal counter latency gap readings statuses totals e;
         fits = λ e h l. text.enough-room b u ordinal counter latency gap readings statuses totals (number-accepted u e) h l;
         too-long = λ e h l. text.too-short b u ordinal counter latency gap readings statuses totals (number-accepted u e) h l;
       }
@@ -129,10 +138,13 @@ module _ (b : List ℕ) (shown : Shown) (ordinal counter latency : ℕ) (gap : G
   shown-written : ShownWritten b shown ordinal counter latency gap readings statuses totals
   shown-written =
       record {
-        number = shown-number b shown ordinal counter latency gap readings statuses totals;
+        front =
+            record {
+              ruled = shown-number b shown ordinal counter latency gap readings statuses totals;
+              refused = λ e. shown-keeps b shown ordinal counter latency gap readings statuses totals e;
+              written = λ e. shown-whole b shown ordinal counter latency gap readings statuses totals e;
+            };
         numbers = λ e. shown-numbers b shown ordinal counter latency gap readings statuses totals e;
-        refused = λ e. shown-keeps b shown ordinal counter latency gap readings statuses totals e;
-        written = λ e. shown-whole b shown ordinal counter latency gap readings statuses totals e;
         fits = λ h l. ap writtenNumber (shown-enough b shown ordinal counter latency gap readings statuses totals h l);
         too-long = λ h l. ap writtenNumber (shown-short b shown ordinal counter latency gap readings statuses totals h l);
       }

@@ -6,11 +6,11 @@ use Prim.Native.Nat.{ℕ, _≤_, _<_}
 use mathlib.Core.Bool.{false}
 use mathlib.Core.List.{List, [], _∷_, _++_}
 use mathlib.Core.Logic.{_⊎_}
-use mathlib.Core.Option.{none, some}
+use mathlib.Core.Option.{Option, none, some}
 use mathlib.Core.Path.{_≡_}
 use lib.IntN.{ℤ}
 use lib.ListN.{length, drop, replicate}
-use Rattle.setup.specs.Setup.{firstNumber, rulingNumber, setupNumber, rulingOn, zeroSetup}
+use Rattle.setup.specs.Setup.{Rule, firstNumber, rulingNumber, setupNumber, rulingOn, zeroSetup}
 use Rattle.setup.specs.declared.Setup.{Setup}
 use Rattle.setup_line.specs.SetupLine as line
 use Rattle.gaps.specs.declared.Gap.{Gap}
@@ -70,26 +70,26 @@ pub record PieceFed (s : Session) (p : List ℕ) : Type 0 where
   pub numbers : {n : ℕ} → pieceNumber s (length p) ≡ some n → Between 10 12 n
   pub refused : {n : ℕ} → pieceNumber s (length p) ≡ some n → feedOf s p ≡ refusal s n
 
+-- a text t for the front of the lent buffer b: the number that comes out, the bytes told, and the buffer at exit, b′
+pub record AtFront (rules : List Rule) (t b : List ℕ) (number : Option ℕ) (told : ℕ) (b′ : List ℕ) : Type 0 where
+  -- the first rule that applies refuses it
+  pub ruled : number ≡ firstNumber rules
+  -- then nothing is written
+  pub refused : {n : ℕ} → number ≡ some n → b′ ≡ b
+  -- else the text stands there, whole, and every later byte is as it was; the number of its bytes comes back
+  pub written : number ≡ none → (length t ≤ length b) × (told ≡ length t) × (b′ ≡ t ++ drop (length t) b)
+
 -- writing a text line into the lent buffer b, `text::write_line`
 pub record LineWritten
     (b : List ℕ) (u : Setup) (ordinal counter latency : ℕ) (gap : Gap) (readings : List (List ℤ)) (statuses : List ℕ) (totals : Totals) : Type 0 where
-  -- the first of 4 to 9, 13 and 14 that applies refuses it
-  pub number :
-      writtenNumber (lineAnswer b u ordinal counter latency gap readings statuses totals)
-      ≡ firstNumber (lineRules u ordinal readings totals (lineText u ordinal counter latency gap readings statuses totals) (length b))
+  -- by 4 to 9, 13 and 14, or the line
+  pub front :
+      let text = lineText u ordinal counter latency gap readings statuses totals in
+      let answer = lineAnswer b u ordinal counter latency gap readings statuses totals in
+      AtFront (lineRules u ordinal readings totals text (length b)) text b (writtenNumber answer) (writtenBytes answer)
+      (lineBuffer b u ordinal counter latency gap readings statuses totals)
   pub numbers :
       {n : ℕ} → writtenNumber (lineAnswer b u ordinal counter latency gap readings statuses totals) ≡ some n → Between 4 9 n ⊎ Between 13 14 n
-  -- then nothing is written
-  pub refused :
-      {n : ℕ} → writtenNumber (lineAnswer b u ordinal counter latency gap readings statuses totals) ≡ some n
-      → lineBuffer b u ordinal counter latency gap readings statuses totals ≡ b
-  -- else the line stands at the front, whole, and every later byte is as it was; the number of its bytes comes back
-  pub written :
-      writtenNumber (lineAnswer b u ordinal counter latency gap readings statuses totals) ≡ none
-      → let text = lineText u ordinal counter latency gap readings statuses totals in
-      (length text ≤ length b)
-      × (writtenBytes (lineAnswer b u ordinal counter latency gap readings statuses totals) ≡ length text)
-      × (lineBuffer b u ordinal counter latency gap readings statuses totals ≡ text ++ drop (length text) b)
   -- 14 refuses a line that nothing before it does exactly if the buffer is shorter than the line
   pub fits :
       setupNumber u ≡ none → outside ordinal readings totals ≡ false
@@ -103,22 +103,14 @@ pub record LineWritten
 -- the same of what is shown, whatever the setup, `text_line::write_shown`
 pub record ShownWritten
     (b : List ℕ) (shown : Shown) (ordinal counter latency : ℕ) (gap : Gap) (readings : List (List ℤ)) (statuses : List ℕ) (totals : Totals) : Type 0 where
-  -- the first of 13 and 14 that applies refuses it, and then nothing is written
-  pub number :
-      writtenNumber (shownAnswer b shown ordinal counter latency gap readings statuses totals)
-      ≡ firstNumber (shownRules ordinal readings totals (shownText shown ordinal counter latency gap readings statuses totals) (length b))
+  -- by 13 and 14, or the line
+  pub front :
+      let text = shownText shown ordinal counter latency gap readings statuses totals in
+      let answer = shownAnswer b shown ordinal counter latency gap readings statuses totals in
+      AtFront (shownRules ordinal readings totals text (length b)) text b (writtenNumber answer) (writtenBytes answer)
+      (shownBuffer b shown ordinal counter latency gap readings statuses totals)
   pub numbers :
       {n : ℕ} → writtenNumber (shownAnswer b shown ordinal counter latency gap readings statuses totals) ≡ some n → Between 13 14 n
-  pub refused :
-      {n : ℕ} → writtenNumber (shownAnswer b shown ordinal counter latency gap readings statuses totals) ≡ some n
-      → shownBuffer b shown ordinal counter latency gap readings statuses totals ≡ b
-  -- else the line stands at the front, whole, and every later byte is as it was; the number of its bytes comes back
-  pub written :
-      writtenNumber (shownAnswer b shown ordinal counter latency gap readings statuses totals) ≡ none
-      → let text = shownText shown ordinal counter latency gap readings statuses totals in
-      (length text ≤ length b)
-      × (writtenBytes (shownAnswer b shown ordinal counter latency gap readings statuses totals) ≡ length text)
-      × (shownBuffer b shown ordinal counter latency gap readings statuses totals ≡ text ++ drop (length text) b)
   -- 14 refuses a line that 13 doesn't exactly if the buffer is shorter than the line
   pub fits :
       outside ordinal readings totals ≡ false → length (shownText shown ordinal counter latency gap readings statuses totals) ≤ length b
@@ -129,22 +121,20 @@ pub record ShownWritten
 
 -- feeding a piece to its end with its lines into the lent buffer b, `lines::receive_lines`
 pub record PieceReceived (s : Session) (p b : List ℕ) : Type 0 where
-  -- the first of 10 to 12 and 14 that applies refuses it
-  pub number : receivedNumber (batchOf s p (length b) .answer) ≡ firstNumber (batchRules s p (length b))
+  -- by 10 to 12 and 14, or the lines
+  pub front :
+      let r = batchOf s p (length b) .answer in
+      AtFront (batchRules s p (length b)) (linesIn s p) b (receivedNumber r) (receivedBytes r) (batchBuffer s p b)
   pub numbers : {n : ℕ} → receivedNumber (batchOf s p (length b) .answer) ≡ some n → Between 10 12 n ⊎ (n ≡ 14)
-  -- then the session comes back as given, no bytes are told and nothing is written
+  -- with a refusal the session comes back as given, and no bytes are told
   pub refused :
       {n : ℕ} → receivedNumber (batchOf s p (length b) .answer) ≡ some n
-      → (batchOf s p (length b) .session ≡ s) × (receivedBytes (batchOf s p (length b) .answer) ≡ 0) × (batchBuffer s p b ≡ b)
-  -- else the lines stand at the front, whole, and every later byte is as it was; the number of their bytes comes back
-  pub written :
-      receivedNumber (batchOf s p (length b) .answer) ≡ none
-      → (length (linesIn s p) ≤ length b)
-      × (receivedBytes (batchOf s p (length b) .answer) ≡ length (linesIn s p))
-      × (batchBuffer s p b ≡ linesIn s p ++ drop (length (linesIn s p)) b)
+      → (batchOf s p (length b) .session ≡ s) × (receivedBytes (batchOf s p (length b) .answer) ≡ 0)
   -- 14 refuses a piece that feeding doesn't exactly if the buffer is shorter than the lines
   pub fits : pieceNumber s (length p) ≡ none → length (linesIn s p) ≤ length b → receivedNumber (batchOf s p (length b) .answer) ≡ none
   pub too-long : pieceNumber s (length p) ≡ none → length b < length (linesIn s p) → receivedNumber (batchOf s p (length b) .answer) ≡ some 14
+  -- it never does if the buffer has 72,000 bytes
+  pub room : pieceNumber s (length p) ≡ none → length (linesIn s p) ≤ 72000
   -- and these are the lines of the datagrams that calls of feeding hand out until the piece is taken, which leave the same session
   pub same :
       length (s .held) ≡ 64 → receivedNumber (batchOf s p (length b) .answer) ≡ none

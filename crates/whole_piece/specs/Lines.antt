@@ -48,19 +48,22 @@ answersIn s p = told (consumer (s .setup)) (stateOf s .carried) (foundIn s p .da
 unfoldable pub linesIn : Session → List ℕ → List ℕ
 linesIn s p = linesAfter (s .setup) (s .history .datagrams .0) (answersIn s p)
 
--- what the session stands for behind the piece
-abbrev pub behind : Session → List ℕ → SessionState
-behind s p =
+-- what a session stands for behind n bytes, of which, with those held, the scan is g; and behind the piece
+abbrev pub behindBy : Session → Scanned → ℕ → SessionState
+behindBy s g n =
     record {
       scan =
           record {
-            held = foundIn s p .held;
-            handed = stateOf s .scan .handed + length (joined (foundIn s p .datagrams));
-            passed = s .passed + foundIn s p .passed;
-            fed = s .fed + length p;
+            held = g .held;
+            handed = stateOf s .scan .handed + length (joined (g .datagrams));
+            passed = s .passed + g .passed;
+            fed = s .fed + n;
           };
-      carried = carriedAfter (consumer (s .setup)) (stateOf s .carried) (foundIn s p .datagrams);
+      carried = carriedAfter (consumer (s .setup)) (stateOf s .carried) (g .datagrams);
     }
+
+abbrev pub behind : Session → List ℕ → SessionState
+behind s p = behindBy s (foundIn s p) (length p)
 
 -- a buffer of so many bytes is long enough for the lines of a piece of n bytes: with the held ones, 64 at most, it completes (n + 64) / 18 datagrams at most
 abbrev pub roomFor : ℕ → ℕ
