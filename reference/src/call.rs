@@ -13,6 +13,11 @@
 //! * 4, a setup line to read: its bytes
 //! * 5, a whole piece at once: the session, the buffer's length (4), the byte
 //!   that fills it, the piece
+//! * 6, a datagram to write: the setup; the values (4 each), which are nine
+//!   readings, three statuses, nine temperatures, three temperature statuses,
+//!   AUX, AUX status, counter, latency; the buffer's length (2), the byte that
+//!   fills it
+//! * 7, a rehearsal line: its bytes
 //!
 //! A setup is rate (2 bytes), identifier (1), termination (2), three units (2
 //! each), three shifts (2 each). A session is the setup; 64 held bytes, their
@@ -33,6 +38,9 @@
 //!   that came back, the bytes written, as they are, and `rest COUNT OTHERS`: how
 //!   many of the bytes behind them are still as they were filled, and what
 //!   follows these in hexadecimal
+//! * `record N made A BUFFER`, A and BUFFER as for a text line
+//! * `record N rehearsal A`, A `too long`, `other count`, `no number`, or `values`
+//!   and the 28 values in the order of a datagram to write
 //! * `session` and: setup, the 64 held bytes in hexadecimal, count, datagrams,
 //!   passed over, fed, previous counter, nine axes (begun, last, total)
 //! * `datagram` and: nine readings, three statuses, nine temperatures and their
@@ -42,6 +50,8 @@
 
 use crate::datagram::{Datagram, Gap, GroupValues};
 use crate::line::{write_line, Line};
+use crate::make::{write_datagram, Values};
+use crate::rehearsal::{read_rehearsal_line, Fault};
 use crate::session::{feed, open_session, Answer, Outcome, Session};
 use crate::setup::{judge_setup, read_setup_line, Setup};
 use crate::whole_piece::receive_lines;
@@ -54,6 +64,8 @@ pub enum Call {
     Line(Box<Line>, usize, u8),
     SetupLine(Vec<u8>),
     WholePiece(Box<Session>, Vec<u8>, usize, u8),
+    Make(Setup, Box<Values>, usize, u8),
+    RehearsalLine(Vec<u8>),
 }
 
 // -------------------------------------------------------------------- records
@@ -67,6 +79,8 @@ pub fn record_of(call: &Call) -> Vec<u8> {
         Call::WholePiece(session, piece, room, fill) => {
             (5, whole_piece_bytes(session, piece, *room, *fill))
         }
+        Call::Make(setup, values, room, fill) => (6, make_bytes(setup, values, *room, *fill)),
+        Call::RehearsalLine(line) => (7, line.clone()),
     };
     let length = u16::try_from(payload.len()).expect("a record is short");
     let mut record = vec![kind];
@@ -148,6 +162,18 @@ fn whole_piece_bytes(session: &Session, piece: &[u8], room: usize, fill: u8) -> 
     bytes
 }
 
+fn make_bytes(setup: &Setup, values: &Values, room: usize, fill: u8) -> Vec<u8> {
+    let mut bytes = setup_bytes(setup);
+    bytes.extend(values.list().map(i32::to_le_bytes).concat());
+    bytes.extend(
+        u16::try_from(room)
+            .expect("a buffer is short")
+            .to_le_bytes(),
+    );
+    bytes.push(fill);
+    bytes
+}
+
 // -------------------------------------------------------------------- answers
 
 /// What the reference answers, behind the record's number.
@@ -174,6 +200,11 @@ pub fn answer_text(call: &Call) -> String {
                 hexadecimal(&behind[count..])
             )
         }
+        Call::Make(setup, values, room, fill) => {
+            let mut buffer = vec![*fill; *room];
+            made_text(&write_datagram(setup, values, &mut buffer), &buffer)
+        }
+        Call::RehearsalLine(line) => rehearsal_text(&read_rehearsal_line(line)),
     }
 }
 
@@ -204,6 +235,26 @@ pub fn setup_text(setup: &Setup) -> String {
 /// The answer to a text line, with the buffer afterwards.
 pub fn line_text(written: &Result<usize, Refusal>, buffer: &[u8]) -> String {
     format!("line {} {}\n", written_text(written), hexadecimal(buffer))
+}
+
+/// The answer to a datagram to write, with the buffer afterwards.
+pub fn made_text(written: &Result<usize, Refusal>, buffer: &[u8]) -> String {
+    format!("made {} {}\n", written_text(written), hexadecimal(buffer))
+}
+
+/// The answer to a rehearsal line.
+pub fn rehearsal_text(read: &Result<Values, Fault>) -> String {
+    let answer = match read {
+        Ok(values) => {
+            let mut words = vec!["values".to_string()];
+            words.extend(values.list().iter().map(i32::to_string));
+            words.join(" ")
+        }
+        Err(Fault::TooLong) => "too long".to_string(),
+        Err(Fault::OtherCount) => "other count".to_string(),
+        Err(Fault::NoNumber) => "no number".to_string(),
+    };
+    format!("rehearsal {answer}\n")
 }
 
 fn written_text(written: &Result<usize, Refusal>) -> String {

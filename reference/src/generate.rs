@@ -6,8 +6,8 @@ use crate::check::{check_of, check_unpadded};
 use crate::datagram::{encode, Fields};
 use crate::layout::{datagram_length, layout_of, IDENTIFIERS};
 use crate::random::Random;
-use crate::setup::{setup_line, Setup, LONGEST_SETUP_LINE};
-use crate::{HIGHEST_READING, LOWEST_READING, PIECE_LIMIT};
+use crate::setup::{judge_setup, setup_line, Setup, LONGEST_SETUP_LINE};
+use crate::{Refusal, HIGHEST_READING, LOWEST_READING, PIECE_LIMIT};
 
 /// The input of one numbered case of a seed: a setup line and a stream.
 pub fn input_of_case(seed: u64, number: u64) -> Vec<u8> {
@@ -61,6 +61,19 @@ pub fn good_setup(random: &mut Random) -> Setup {
     setup
 }
 
+/// A setup that isn't refused. Each 32 cases in a row have every identifier
+/// with each termination.
+pub fn setup_of_case(random: &mut Random, number: u64) -> Setup {
+    let identifier = u32::from(IDENTIFIERS[(number % 16) as usize]);
+    let termination = (number / 16 % 2) as u32;
+    loop {
+        let setup = good_setup(random);
+        if setup.identifier == identifier && setup.termination == termination {
+            return setup;
+        }
+    }
+}
+
 /// Many short, some around a piece's limit, a few long.
 fn stream_size(random: &mut Random) -> usize {
     match random.below(1000) {
@@ -102,6 +115,17 @@ pub fn doubtful_setup_line(random: &mut Random, good: &Setup) -> Vec<u8> {
         spoil_length(random, &mut line);
     }
     line
+}
+
+/// A setup that one of the numbers 4 to 9 refuses.
+pub fn refused_setup(random: &mut Random, good: &Setup, refusal: Refusal) -> Setup {
+    loop {
+        let mut setup = *good;
+        spoil_values(random, &mut setup, refusal.into());
+        if judge_setup(&setup) == Err(refusal) {
+            return setup;
+        }
+    }
 }
 
 /// Faults 4 to 9, and values just beside them.

@@ -1,5 +1,6 @@
 //! A reference implementation of the STIM300 bench receiver, written from the
-//! scope paper (document 01) and the sensor's datasheet (document 001) alone.
+//! scope paper (document 01), its change requests (document 02) and the sensor's
+//! datasheet (document 001) alone.
 //!
 //! The plain version, straight from the paper's sentences:
 //!
@@ -11,29 +12,38 @@
 //! * [`line`]: the text line (refusals 4 to 9, 13 and 14)
 //! * [`whole_piece`]: the lines of a whole piece at once (refusals 10 to 12, 14)
 //! * [`program`]: what the receiving program prints for a whole input
+//! * [`make`]: writing a datagram (refusals 4 to 9, 15 and 16)
+//! * [`rehearsal`]: the line that a datagram is made from
+//! * [`make_program`]: what the making program writes for a whole input
 //!
 //! Beside it:
 //!
 //! * [`fast`]: the same program written for speed
-//! * [`random`], [`generate`]: adversarial inputs from a seed
+//! * [`random`], [`generate`], [`generate_make`]: adversarial inputs from a seed
 //! * [`call`]: single calls of the library as records, with their answers as text
 //! * [`listed`]: calls written by hand, and at their edges
+//! * [`process`]: giving a program its input, and showing what it printed
 
 pub mod call;
 pub mod check;
 pub mod datagram;
 pub mod fast;
 pub mod generate;
+pub mod generate_make;
 pub mod layout;
 pub mod line;
 pub mod listed;
+pub mod make;
+pub mod make_program;
+pub mod process;
 pub mod program;
 pub mod random;
+pub mod rehearsal;
 pub mod session;
 pub mod setup;
 pub mod whole_piece;
 
-/// The number of a refusal, as listed in 01, "What is turned down".
+/// The number of a refusal, as listed in 01, "What is turned down", and in 02.
 pub type Refusal = u8;
 
 /// The three groups, in the order in which a datagram carries them.

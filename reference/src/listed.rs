@@ -1,11 +1,15 @@
-//! Listed calls: the cases of `cases.txt`, written by hand from 01, and of
-//! `line_cases.txt`, written by tools/cases.pl, with what each must answer; and
-//! whole pieces at their edges.
+//! Listed calls: the cases of `cases.txt`, written by hand from 01, of
+//! `line_cases.txt`, written by tools/cases.pl, and of `make_cases.txt`, from 02,
+//! 2.1, with what each must answer; and whole pieces at their edges.
 
-use crate::call::{feed_text, line_text, opened_text, read_text, setup_text, Call};
+use crate::call::{
+    feed_text, line_text, made_text, opened_text, read_text, rehearsal_text, setup_text, Call,
+};
 use crate::datagram::{encode, Datagram, Fields, Gap};
 use crate::layout::datagram_length;
 use crate::line::Line;
+use crate::make::{Values, VALUE_COUNT};
+use crate::rehearsal::Fault;
 use crate::session::{feed, Answer, Axis, Outcome, Session};
 use crate::setup::Setup;
 use crate::whole_piece::{lines_of, ROOM_FOR_LINES};
@@ -20,12 +24,24 @@ const CASES: &str = include_str!("cases.txt");
 /// value.
 const LINE_CASES: &str = include_str!("line_cases.txt");
 
+/// Datagrams to write and rehearsal lines; the head of the file says how they
+/// are written.
+const MAKE_CASES: &str = include_str!("make_cases.txt");
+
 /// The calls of the cases, each with what its answer must contain: all of it, or
 /// one line of two for a setup line.
 pub fn cases() -> Vec<(Call, String)> {
-    CASES
-        .lines()
-        .chain(LINE_CASES.lines())
+    let lines = CASES.lines().chain(LINE_CASES.lines());
+    calls_of_cases(lines)
+}
+
+/// The same of the datagrams to write and the rehearsal lines.
+pub fn make_cases() -> Vec<(Call, String)> {
+    calls_of_cases(MAKE_CASES.lines())
+}
+
+fn calls_of_cases<'a>(lines: impl Iterator<Item = &'a str>) -> Vec<(Call, String)> {
+    lines
         .filter(|line| !line.starts_with('#'))
         .flat_map(calls_of_case)
         .collect()
@@ -46,6 +62,16 @@ fn calls_of_case(case: &str) -> Vec<(Call, String)> {
         "open" => open_case(&words),
         "piece" => vec![piece_case(&words)],
         "write" => vec![write_case(&words, behind(46))],
+        "made" => vec![made_case(&words)],
+        "values" => {
+            let values = values_of(&words[1..29]);
+            vec![rehearsal_case(behind(29).into(), Ok(values))]
+        }
+        "too-long" => vec![rehearsal_case(behind(1).into(), Err(Fault::TooLong))],
+        "other-count" => vec![rehearsal_case(behind(1).into(), Err(Fault::OtherCount))],
+        "no-number" => vec![rehearsal_case(behind(1).into(), Err(Fault::NoNumber))],
+        "other-count-bytes" => vec![rehearsal_case(bytes_of(words[1]), Err(Fault::OtherCount))],
+        "no-number-bytes" => vec![rehearsal_case(bytes_of(words[1]), Err(Fault::NoNumber))],
         other => panic!("there is no case of the kind {other}"),
     }
 }
@@ -158,6 +184,34 @@ fn write_case(words: &[&str], text: &str) -> (Call, String) {
     };
     let expected = line_text(&answer, &buffer);
     (Call::Line(Box::new(line), buffer.len(), 0xEE), expected)
+}
+
+fn made_case(words: &[&str]) -> (Call, String) {
+    let setup = setup_of(&words[2..11]);
+    let values = values_of(&words[11..39]);
+    let mut buffer = vec![0xEE; number(words[39])];
+    let answer = match number(words[1]) {
+        0 => {
+            let datagram = bytes_of(words[40]);
+            buffer[..datagram.len()].copy_from_slice(&datagram);
+            Ok(datagram.len())
+        }
+        refusal => Err(refusal),
+    };
+    let expected = made_text(&answer, &buffer);
+    (
+        Call::Make(setup, Box::new(values), buffer.len(), 0xEE),
+        expected,
+    )
+}
+
+fn rehearsal_case(line: Vec<u8>, read: Result<Values, Fault>) -> (Call, String) {
+    (Call::RehearsalLine(line), rehearsal_text(&read))
+}
+
+fn values_of(words: &[&str]) -> Values {
+    let list: [i32; VALUE_COUNT] = std::array::from_fn(|place| number(words[place]));
+    Values::of_list(&list)
 }
 
 /// Nine numbers, so many words apart.

@@ -1,4 +1,4 @@
 -- Laws of acceptable datagrams.
 pub mod Acceptance
-pub mod Written
+pub mod Completed
 pub mod Examples

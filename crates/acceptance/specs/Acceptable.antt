@@ -1,10 +1,10 @@
 -- 01, The scan: L bytes are an acceptable datagram of a setup if identifier, check and termination are right.
 use Prim.Native.Nat.{ℕ, _+_}
 use mathlib.Core.Bool.{Bool, true, false, _&&_}
-use mathlib.Core.List.{List, [], _∷_}
+use mathlib.Core.List.{List, [], _∷_, _++_}
 use lib.Dec.{eqb, leb}
 use lib.ListN.{length, getD, take, drop}
-use Rattle.integers.specs.Bytes.{bigEndian}
+use Rattle.integers.specs.Bytes.{bigEndian, inBytes}
 use Rattle.crc.specs.Check.{checkOf}
 use Rattle.setup.specs.Layout.{bytes, Layout, layoutOf, checkBytes, lengthIn, rowAt}
 use Rattle.setup.specs.Setup.{terminated}
@@ -45,3 +45,7 @@ acceptableAt Unlisted u s = false
 
 unfoldable pub acceptable : Setup → List ℕ → Bool
 acceptable u s = acceptableAt (rowAt (u .identifier)) u s
+
+-- the datagram of a layout with these bytes before the check: they, their check, most significant byte first, and the ending
+unfoldable pub completed : Layout → List ℕ → List ℕ
+completed l front = front ++ (inBytes (checkBytes (l .check)) (checkOf (l .check) front) ++ l .ending)

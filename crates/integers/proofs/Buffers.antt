@@ -7,8 +7,9 @@ use native.Mathlib.Decide.{decLe}
 use native.Mathlib.Omega.{arith}
 use borrow.Rule.Slice.PartMut.{midOf, putMid}
 use lib.ListN.{length, take, drop, getD, set, replicate, length-append, length-drop, length-replicate, drop-of-length-le}
-use lib.Seq.{take-all, take-length, take-at, drop-at, drop-drop, set-append-seam, append-snoc, sets, sets-eq}
-use Rattle.integers.specs.Buffers.{padded}
+use lib.Seq.{take-all, take-length, take-at, drop-at, drop-drop, set-append-seam, append-snoc, sets, sets-eq, length-sets}
+use native.Mathlib.Numerals.{add-one}
+use Rattle.integers.specs.Buffers.{padded, Put}
 
 -- ---- parts
 
@@ -111,3 +112,53 @@ copied-front n s h =
     ∙ sym (put-front (replicate n 0) s (omega (arith, length-replicate {A = ℕ} n 0)))
     ∙ ap (λ (k : ℕ). sets (replicate k 0) 0 s) all
     ∙ padded-sets n [] s 0 refl (omega arith)
+
+-- ---- texts put into a buffer one behind the other are their joined text, put where the first begins
+
+-- nothing
+pub put-none : {b : List ℕ} {at : ℕ} → Put b at [] b at
+put-none {b} {at} = record { place = sym (add-zero at); bytes = refl }
+
+-- one byte
+pub put-byte : {b : List ℕ} {at x : ℕ} → Put b at (x ∷ []) (set b at x) (at + 1)
+put-byte = record { place = refl; bytes = refl }
+
+-- two, three and four, as code counts their places
+pub put-two : {b : List ℕ} {at x y : ℕ} → Put b at (x ∷ y ∷ []) (set (set b at x) (at + 1) y) (at + 2)
+put-two {b} {at} = record { place = refl; bytes = rw (add-one at) }
+
+pub put-three : {b : List ℕ} {at x y z : ℕ} → Put b at (x ∷ y ∷ z ∷ []) (set (set (set b at x) (at + 1) y) (at + 2) z) (at + 3)
+put-three {b} {at} = let e : at + 2 ≡ suc (suc at) = omega arith in record { place = refl; bytes = rw (add-one at, e) }
+
+pub put-four :
+    {b : List ℕ} {at x y z w : ℕ} → Put b at (x ∷ y ∷ z ∷ w ∷ []) (set (set (set (set b at x) (at + 1) y) (at + 2) z) (at + 3) w) (at + 4)
+put-four {b} {at} =
+    let e : at + 2 ≡ suc (suc at) = omega arith in
+    let f : at + 3 ≡ suc (suc (suc at)) = omega arith in
+    record { place = refl; bytes = rw (add-one at, e, f) }
+
+module _ {b b1 : List ℕ} {at mid : ℕ} {s : List ℕ} (p : Put b at s b1 mid) where
+  -- the buffer keeps its length
+  pub put-length : length b1 ≡ length b
+  put-length = ap length (p .bytes) ∙ length-sets b at s
+
+  -- a text behind the other
+  pub then-put : {b2 : List ℕ} {end : ℕ} {t : List ℕ} → Put b1 mid t b2 end → Put b at (s ++ t) b2 end
+  then-put {b2} {end} {t} q =
+      record {
+        place = omega (arith, p .place, q .place, length-append s t);
+        bytes = q .bytes ∙ rw (p .bytes, p .place) (sym (sets-append b at s t));
+      }
+
+  -- where there is room for both there is still room for the second
+  pub room-then : (t : List ℕ) → at + length (s ++ t) ≤ length b → mid + length t ≤ length b1
+  room-then t h = omega (arith, put-length, p .place, length-append s t)
+
+-- where there is room for two texts there is room for the first
+pub room-first : (at : ℕ) (s t : List ℕ) {n : ℕ} → at + length (s ++ t) ≤ n → at + length s ≤ n
+room-first at s t h = omega (arith, length-append s t)
+
+-- a text put at the front stands there then
+pub put-taken : {b text b1 : List ℕ} {n : ℕ} → Put b 0 text b1 n → length text ≤ length b → take n b1 ≡ text
+put-taken {b} {text} {b1} {n} p h =
+    rw (p .bytes, put-front b text h) (take-at text (drop (length text) b) n (omega (arith, p .place)))

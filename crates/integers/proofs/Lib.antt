@@ -7,5 +7,6 @@ pub mod Rounding
 pub mod Bytes
 pub mod Folding
 pub mod Ranges
+pub mod Values
 pub mod Buffers
 pub mod BenchCases

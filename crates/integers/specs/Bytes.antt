@@ -1,10 +1,11 @@
 -- The values of bytes (01, Layout by identifier): the most significant byte comes first, readings are two's complement.
-use Prim.Native.Nat.{ℕ, _+_, _*_, _^_, _<_}
+use Prim.Native.Nat.{ℕ, zero, suc, _+_, _*_, _/_, _%_, _^_, _<_}
 use mathlib.Core.Bool.{Bool, true, cond, _&&_}
 use mathlib.Core.List.{List, [], _∷_}
 use lib.Dec.{ltb}
 use lib.IntN.{ℤ, pos, _-ℤ_}
 use lib.ListN.{length, getD}
+use Rattle.integers.specs.Rounding.{residue}
 
 -- every element is a byte
 pub record AllBytes (bs : List ℕ) : Type 0 where
@@ -27,3 +28,21 @@ twosComplement width n = cond (ltb (2 * n) (2 ^ width)) (pos n) (pos n -ℤ pos 
 -- the value of bytes as a two's complement number, whatever their number
 unfoldable pub signedBytes : List ℕ → ℤ
 signedBytes bs = twosComplement (8 * length bs) (bigEndian bs)
+
+-- a number in so many bytes, the most significant first
+unfoldable pub inBytes : ℕ → ℕ → List ℕ
+inBytes zero n = []
+inBytes (suc w) n = n / 2 ^ (8 * w) % 256 ∷ inBytes w n
+
+-- how the bytes of a field are read: in two's complement, or as an unsigned number
+pub data Sign : Type 0 where
+  signed unsigned : Sign
+
+-- the whole number that the bytes of a field stand for
+abbrev pub valueOf : Sign → List ℕ → ℤ
+valueOf signed bs = signedBytes bs
+valueOf unsigned bs = pos (bigEndian bs)
+
+-- a whole number written into a field of so many bytes: a negative one in two's complement
+unfoldable pub valueBytes : ℕ → ℤ → List ℕ
+valueBytes w z = inBytes w (residue z (2 ^ (8 * w)))

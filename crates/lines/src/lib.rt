@@ -9,7 +9,7 @@ ghost use Rattle.setup.specs.Setup.{rulingOn};
 ghost use Rattle.setup.specs.Sensor.{sensorOf};
 ghost use Rattle.setup.specs.declared.Ruling.the-variants.{Accepted};
 ghost use Rattle.shown_line.specs.ShownLine.{shownText, outside};
-ghost use Rattle.shown_line.specs.Putting.{Put};
+ghost use Rattle.integers.specs.Buffers.{Put};
 ghost use Rattle.scan.specs.Scan.{first};
 ghost use Rattle.search.specs.Search.{isDatagram, limitsOf, verdictOf, placeOf};
 ghost use Rattle.admission.specs.Admission.{pieceRuling};

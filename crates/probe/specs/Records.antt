@@ -9,6 +9,7 @@ use lib.ListN.{getD}
 use Rattle.integers.specs.Bytes.{twosComplement}
 use Rattle.setup.specs.declared.Setup.{Setup}
 use Rattle.wire.specs.Fields.{window}
+use Rattle.made_datagram.specs.declared.Values.{Values}
 use Rattle.gaps.specs.Gaps.{datagrams}
 use Rattle.gaps.specs.declared.Gap.{Gap}
 use Rattle.gaps.specs.declared.Gap.the-variants.{Missed, OffStep}
@@ -102,3 +103,22 @@ groupTotalsAt s i = record { x = totalAt s i; y = totalAt s (i + 9); z = totalAt
 
 unfoldable pub totalsIn : List ℕ → Totals
 totalsIn s = record { gyro = groupTotalsAt s 76; accelerometer = groupTotalsAt s 103; inclinometer = groupTotalsAt s 130 }
+
+-- ---- what a datagram is written from
+
+unfoldable pub madeGridIn : List ℕ → List (List ℤ)
+madeGridIn s = rowAt s 17 ∷ rowAt s 29 ∷ rowAt s 41 ∷ []
+
+unfoldable pub valuesIn : List ℕ → Values
+valuesIn s =
+    record {
+      statuses = rowAt s 53;
+      «gyro_temperatures» = rowAt s 65;
+      «accelerometer_temperatures» = rowAt s 77;
+      «inclinometer_temperatures» = rowAt s 89;
+      «temperature_statuses» = rowAt s 101;
+      aux = signedWordAt s 113;
+      «aux_status» = signedWordAt s 117;
+      counter = signedWordAt s 121;
+      latency = signedWordAt s 125;
+    }

@@ -7,10 +7,12 @@ ghost use Rattle.gaps.specs.Gaps.{datagrams};
 ghost use Rattle.probe.specs.Records.{byteAt, shortAt, wordAt, longAt, signedWordAt, signedLongAt, markAt};
 ghost use Rattle.probe.specs.Records.{threeAt, setupIn, axisAt, groupAxesAt, sessionIn};
 ghost use Rattle.probe.specs.Records.{gapIn, rowAt, gridIn, statusesIn, totalAt, groupTotalsAt, totalsIn};
+ghost use Rattle.probe.specs.Records.{madeGridIn, valuesIn};
 use gaps::Datagrams;
 use gaps::Gap;
 use history::History;
 use integers::byte_or_zero;
+use made_datagram::Values;
 use motion::Axes;
 use motion::Axis;
 use motion::GroupAxes;
@@ -265,6 +267,47 @@ pub(crate) fn fill_of(s: &[u8]) -> u8
     ensures { λ r. ⌜ r ≡ byteAt (now (s .entry)) 159 ⌝ }
 {
     byte_or_zero(s, 159)
+}
+
+// What a datagram is written from.
+pub(crate) fn made_grid_of(s: &[u8]) -> [[i32; 3]; 3]
+    ensures { λ r. ⌜ r ≡ madeGridIn (now (s .entry)) ⌝ }
+{
+    [row_at(s, 17), row_at(s, 29), row_at(s, 41)]
+}
+
+pub(crate) fn values_of(s: &[u8]) -> Values
+    ensures { λ r. ⌜ r ≡ valuesIn (now (s .entry)) ⌝ }
+{
+    let statuses = row_at(s, 53);
+    let gyro = row_at(s, 65);
+    let accelerometer = row_at(s, 77);
+    let inclinometer = row_at(s, 89);
+    let temperature_statuses = row_at(s, 101);
+    Values {
+        statuses: statuses,
+        gyro_temperatures: gyro,
+        accelerometer_temperatures: accelerometer,
+        inclinometer_temperatures: inclinometer,
+        temperature_statuses: temperature_statuses,
+        aux: i32_at(s, 113),
+        aux_status: i32_at(s, 117),
+        counter: i32_at(s, 121),
+        latency: i32_at(s, 125),
+    }
+}
+
+// The length of the buffer to lend for it, and the byte that fills it.
+pub(crate) fn made_room_of(s: &[u8]) -> u16
+    ensures { λ r. ⌜ r ≡ shortAt (now (s .entry)) 129 ⌝ }
+{
+    u16_at(s, 129)
+}
+
+pub(crate) fn made_fill_of(s: &[u8]) -> u8
+    ensures { λ r. ⌜ r ≡ byteAt (now (s .entry)) 131 ⌝ }
+{
+    byte_or_zero(s, 131)
 }
 
 // The same for the lines of a whole piece, behind the session.

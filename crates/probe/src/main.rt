@@ -7,6 +7,9 @@
 //        statuses (73), nine totals (76) of a begun mark and a value, the buffer's length (157), the byte that fills it (159)
 //     4, a setup line: its bytes (0)
 //     5, a whole piece at once: the session (0), behind it the buffer's length (0), the byte that fills it (4), the piece (5)
+//     6, a datagram to write: the setup (0), nine readings (17), three statuses (53), nine temperatures (65), three temperature statuses (101),
+//        AUX (113), its status (117), counter (121), latency (125), the buffer's length (129), the byte that fills it (131)
+//     7, a rehearsal line: its bytes (0)
 // A setup is rate, identifier (one byte), termination, three units and three shifts. A session is the setup (0), held bytes (17), their
 // count (81), datagrams (89), bytes passed over (97), bytes fed (105), the previous counter (113), nine axes (114) of a begun mark, a last
 // reading and a total. A truncated record ends the program.
@@ -21,6 +24,9 @@ use given::grid_of;
 use given::latency_of;
 use given::lines_fill_of;
 use given::lines_room_of;
+use given::made_fill_of;
+use given::made_grid_of;
+use given::made_room_of;
 use given::ordinal_of;
 use given::room_of;
 use given::session_of;
@@ -28,13 +34,20 @@ use given::setup_of;
 use given::size_of;
 use given::statuses_of;
 use given::totals_of;
+use given::values_of;
 use libc::STDIN_FILENO;
+use made_datagram::Made;
+use rehearsal::Rehearsed;
 use shown::end_line;
 use shown::put_answer;
 use shown::put_bytes;
 use shown::put_datagram;
+use shown::put_given;
+use shown::put_grid;
+use shown::put_made;
 use shown::put_number;
 use shown::put_received;
+use shown::put_rehearsed;
 use shown::put_ruling;
 use shown::put_session;
 use shown::put_setup;
@@ -199,6 +212,36 @@ fn lines_record(s: &[u8]) {
     put_batch(batch, buffer, room, fill);
 }
 
+fn make_given(buffer: &mut [u8], s: &[u8]) -> Made {
+    let setup = setup_of(s);
+    let grid = made_grid_of(s);
+    let values = values_of(s);
+    making::write_datagram(buffer, setup, grid, values)
+}
+
+// A datagram, with all of the buffer behind the answer.
+fn made_record(s: &[u8]) {
+    let room = (made_room_of(s) % 401) as usize;
+    let mut buffer = filled(made_fill_of(s));
+    let made = make_given(&mut buffer[0..room], s);
+    put_text(b" made");
+    put_made(made);
+    put_buffer(buffer, room);
+    end_line();
+}
+
+// A rehearsal line: whether it is written as it should be, and then its values.
+fn rehearsal_record(s: &[u8]) {
+    let rehearsed = rehearsal::judge_line(s);
+    put_text(b" rehearsal");
+    put_rehearsed(rehearsed);
+    if let Rehearsed::Written = rehearsed {
+        put_grid(rehearsal::readings_of(s));
+        put_given(rehearsal::values_of(s));
+    }
+    end_line();
+}
+
 fn answer_record(number: u64, kind: u8, payload: [u8; 6144], size: usize)
     requires { ⌜ size ≤ 6144 ⌝ }
 {
@@ -211,6 +254,8 @@ fn answer_record(number: u64, kind: u8, payload: [u8; 6144], size: usize)
         3 => line_record(s),
         4 => setup_line_record(s),
         5 => lines_record(s),
+        6 => made_record(s),
+        7 => rehearsal_record(s),
         _ => end_line(),
     }
 }

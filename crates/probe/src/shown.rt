@@ -7,12 +7,14 @@ use feeding::Answer;
 use feeding::Datagram;
 use gaps::Gap;
 use libc::STDOUT_FILENO;
+use made_datagram::Made;
 use motion::Axes;
 use motion::Axis;
 use motion::GroupAxes;
 use motion::GroupTotals;
 use motion::Total;
 use motion::Totals;
+use rehearsal::Rehearsed;
 use session::Session;
 use setup::Ruling;
 use setup::Setup;
@@ -295,4 +297,45 @@ pub(crate) fn put_received(received: Received) {
         Received::Lines(count) => put_count(count),
         Received::Refused(number) => put_refused(number),
     }
+}
+
+pub(crate) fn put_made(made: Made) {
+    match made {
+        Made::Datagram(count) => put_count(count),
+        Made::Refused(number) => put_refused(number),
+    }
+}
+
+// Whether a rehearsal line says what a datagram is to carry.
+pub(crate) fn put_rehearsed(rehearsed: Rehearsed) {
+    match rehearsed {
+        Rehearsed::Written => put_text(b" values"),
+        Rehearsed::TooLong => put_text(b" too long"),
+        Rehearsed::OtherCount => put_text(b" other count"),
+        Rehearsed::NoNumber => put_text(b" no number"),
+    }
+}
+
+pub(crate) fn put_grid(readings: [[i32; 3]; 3]) {
+    put_row(readings[0]);
+    put_row(readings[1]);
+    put_row(readings[2]);
+}
+
+// The values of a datagram beside its readings.
+pub(crate) fn put_given(values: made_datagram::Values) {
+    let statuses = values.statuses;
+    let gyro = values.gyro_temperatures;
+    let accelerometer = values.accelerometer_temperatures;
+    let inclinometer = values.inclinometer_temperatures;
+    let temperature_statuses = values.temperature_statuses;
+    put_row(statuses);
+    put_row(gyro);
+    put_row(accelerometer);
+    put_row(inclinometer);
+    put_row(temperature_statuses);
+    put_reading(values.aux);
+    put_reading(values.aux_status);
+    put_reading(values.counter);
+    put_reading(values.latency);
 }

@@ -28,6 +28,7 @@ use Rattle.feeding.specs.declared.Datagram.{Datagram}
 use Rattle.feeding.specs.Feed.{Calls}
 use Rattle.feeding.proofs.CallParts.{fed-refused}
 use Rattle.feeding.proofs.EachCall.{fed-number}
+use Rattle.text.proofs.Answers.{setup-refused}
 use Rattle.text.proofs.LineLaws as text
 use Rattle.whole_piece.specs.Lines.{receivedNumber, linesAfter, linesIn}
 use Rattle.whole_piece.specs.declared.Batch.{Batch}
@@ -35,7 +36,10 @@ use Rattle.whole_piece.proofs.Batches.{fourteen, fitting-lines, Way, turned-dow
 use Rattle.whole_piece.proofs.LongestLines.{lines-enough}
 use Rattle.whole_piece.proofs.OneByOne.{run, one-by-one}
 use Rattle.whole_piece.proofs.BatchAnswers.{batch-number, batch-refused, batch-written}
-use Rattle.promises.specs.Demand1.{LineRead, SetupJudged, IsFresh, SessionOpened, PieceFed, LineWritten, ShownWritten, PieceReceived, Demand1}
+use Rattle.made_datagram.specs.Making.{madeNumber, madeBytes}
+use Rattle.made_datagram.specs.declared.Values.{Values}
+use Rattle.made_datagram.proofs.MadeLaws as making
+use Rattle.promises.specs.Demand1.{LineRead, SetupJudged, IsFresh, SessionOpened, PieceFed, LineWritten, ShownWritten, PieceReceived, DatagramMade, Demand1}
 
 line-read : (l : List ℕ) → LineRead l
 line-read l =
@@ -130,6 +134,7 @@ module _ (b : List ℕ) (u : Setup) (ordinal counter latency : ℕ) (gap : Gap) 
               written = λ e. text.written-whole b u ordinal counter latency gap readings statuses totals e;
             };
         numbers = λ e. text.answer-numbers b u ordinal counter latency gap readings statuses totals e;
+        setup-first = λ e. sym (ap writtenNumber (setup-refused b u ordinal counter latency gap readings statuses totals (number-refused u e) .0));
         fits = λ e h l. text.enough-room b u ordinal counter latency gap readings statuses totals (number-accepted u e) h l;
         too-long = λ e h l. text.too-short b u ordinal counter latency gap readings statuses totals (number-accepted u e) h l;
       }
@@ -149,6 +154,22 @@ module _ (b : List ℕ) (shown : Shown) (ordinal counter latency : ℕ) (gap : G
         too-long = λ h l. ap writtenNumber (shown-short b shown ordinal counter latency gap readings statuses totals h l);
       }
 
+datagram-made : (b : List ℕ) (u : Setup) (readings : List (List ℤ)) (v : Values) → DatagramMade b u readings v
+datagram-made b u readings v =
+    record {
+      front =
+          record {
+            ruled = making.made-number b u readings v;
+            refused = λ e. making.refused-keeps b u readings v e;
+            written = λ e. making.made-whole b u readings v e;
+          };
+      numbers = λ e. making.made-numbers b u readings v e;
+      setup-first = λ e. ap madeNumber (making.setup-first b u readings v (number-refused u e));
+      outside = λ e h. ap madeNumber (making.made-outside b u readings v (number-accepted u e) h);
+      too-short = λ e h l. ap madeNumber (making.made-short b u readings v (number-accepted u e) h l);
+      fits = λ e h l. let a = making.made-enough b u readings v (number-accepted u e) h l in (ap madeNumber a, ap madeBytes a);
+    }
+
 pub demand1 : Demand1
 demand1 =
     record {
@@ -159,4 +180,5 @@ demand1 =
       line-written = line-written;
       shown-written = shown-written;
       piece-received = piece-received;
+      datagram-made = datagram-made;
     }

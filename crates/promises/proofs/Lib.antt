@@ -3,4 +3,5 @@ pub mod Demand1
 pub mod BuildingBlocks
 pub mod PaperRules
 pub mod LinesInTurn
+pub mod MadeHere
 pub mod Promised

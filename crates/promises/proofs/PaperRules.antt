@@ -3,23 +3,23 @@ use Prim.Native.Nat.{ℕ, zero, suc, _+_, _-_, _*_, _^_, _≤_, _<_}
 use mathlib.Core.Bool.{Bool, true, false, cond}
 use mathlib.Core.List.{List, [], _∷_, _++_}
 use mathlib.Core.Option.{none, some}
-use mathlib.Core.Path.{_≡_, refl, sym, ap, _∙_, subst}
+use mathlib.Core.Path.{_≡_, refl, sym, ap, ap₂, _∙_, subst}
 use native.Mathlib.Omega.{arith}
 use lib.Dec.{eqb}
 use lib.IntN.{ℤ, pos, _+ℤ_, _-ℤ_, _*ℤ_}
-use lib.ListN.{length, take, drop, replicate, getD, length-append, length-drop, length-replicate}
-use lib.Seq.{length-take-le, take-at, drop-at}
+use lib.ListN.{length, take, drop, getD, length-drop}
+use lib.Seq.{length-take-le, take-at, drop-at, drop-cons}
 use Rattle.integers.specs.Bytes.{AllBytes, bigEndian}
 use Rattle.integers.specs.Folding.{fold}
 use Rattle.integers.specs.Ranges.{inReading}
 use Rattle.integers.proofs.Booleans.{and-true}
-use Rattle.integers.proofs.Bytes.{bytes-nil, bytes-cons, bytes-take, bytes-drop, bigEndian-injective, all-areBytes}
+use Rattle.integers.proofs.Bytes.{bytes-take, bytes-drop, bigEndian-injective, all-areBytes}
+use Rattle.integers.proofs.Values.{inBytes-length, inBytes-bytes}
 use Rattle.integers.proofs.Folding.{fold-range, fold-congruent}
 use Rattle.integers.proofs.Parts.{posPart, negPart, parts-ext, add-parts, sub-parts, mul-posPart, mul-negPart}
 use Rattle.integers.proofs.Ranges.{range-inReading}
 use Rattle.integers.proofs.Rounding.{floor-not-above, floor-greatest}
 use Rattle.crc.specs.Check.{stim300, checkOf, check32}
-use Rattle.crc.proofs.Checks.{check32-lt}
 use Rattle.setup.specs.Layout.{Entry, entry, table, carrying, bytes, partsOf, layoutOf, rowAt, listingRow}
 use Rattle.setup.specs.Setup.{setupNumber, terminated, lengthOf}
 use Rattle.setup.specs.AcceptedSetup.{lineOfTable, PassesNine}
@@ -32,9 +32,14 @@ use Rattle.setup.proofs.NineLaws.{accepted-nine, nine-accepted}
 use Rattle.setup.proofs.Refusals.{listed-length}
 use Rattle.setup.proofs.Rows.{listed-row-at}
 use Rattle.setup.proofs.Rules.{number-accepted}
+use Rattle.wire.specs.Fields.{fieldsOf, besidesReadings}
 use Rattle.wire.proofs.FieldBytes.{absent-group, absent-temperatures, absent-aux}
-use Rattle.acceptance.specs.Acceptable.{acceptable}
-use Rattle.acceptance.proofs.Written.{fourBytes, four-value, four-bytes, written, written-acceptable, written-bytes, acceptable-written}
+use Rattle.acceptance.specs.Acceptable.{acceptable, completed}
+use Rattle.acceptance.proofs.Completed.{checkSent, check-value, laid, completed-by, completed-acceptable, acceptable-long, acceptable-completed}
+use Rattle.made_datagram.specs.Making.{fieldValues, madeDatagram}
+use Rattle.made_datagram.proofs.Fifteen as fifteen
+use Rattle.made_datagram.proofs.RoundTrips.{made-bytes, made-acceptable}
+use Rattle.made_datagram.proofs.WorkedExample.{worked}
 use Rattle.gaps.specs.Gaps.{elapsed}
 use Rattle.gaps.proofs.Gaps.{elapsed-back, elapsed-range, missed-steps, off-step, first-none, trigger-none}
 use Rattle.motion.proofs.AcceptedSetup.{integrated-kept, other-not-kept}
@@ -42,7 +47,7 @@ use Rattle.motion.proofs.Status.{unfit-all, unfit-named, fit-unnamed, fit-clear
 use Rattle.doubles.proofs.Starred.{starred}
 use Rattle.shown_line.proofs.Thirteen.{inside-passes, passes-inside}
 use Rattle.search.specs.Search.{isDatagram}
-use Rattle.search.proofs.Datagrams.{datagram-parts, datagram-length}
+use Rattle.search.proofs.Datagrams.{datagram-parts, datagram-first}
 use Rattle.promises.specs.PaperRules.{MadeUp, PaperRules}
 
 -- ---- the row of a line of the table
@@ -71,11 +76,6 @@ module _ (u : Setup) (e : setupNumber u ≡ none) (k : ℕ) (l : k < length tabl
 
 -- ---- acceptable datagrams
 
--- the four bytes of a check
-four-right : (front : List ℕ) → bigEndian (fourBytes (check32 front)) ≡ checkOf stim300 front
-unfolding check32
-four-right front = four-value (check32 front)
-
 module _ (u : Setup) (e : setupNumber u ≡ none) where
   nine : PassesNine u
   nine = accepted-nine u e
@@ -92,29 +92,32 @@ module _ (u : Setup) (e : setupNumber u ≡ none) where
   long-enough : (14 ≤ bytes (partsOf here)) × (bytes (partsOf here) ≤ 59)
   long-enough = before-range here
 
-  body-length : (d : List ℕ) → isDatagram u d ≡ true → length (take (bytes (partsOf here) - 1) (drop 1 d)) ≡ bytes (partsOf here) - 1
-  body-length d good =
-      length-take-le (bytes (partsOf here) - 1) (drop 1 d)
-      (omega (arith, length-drop 1 d, datagram-length u d good, listed-length u its-row, length-parts here (terminated u)))
-
   made-up : (d : List ℕ) → isDatagram u d ≡ true → MadeUp u d
+  unfolding check32
   made-up d good =
       let parts = datagram-parts u d good in
       let n = bytes (partsOf here) in
+      let long = acceptable-long u here its-row (nine .termination) d (parts .0) (parts .1) in
       let body = take (n - 1) (drop 1 d) in
       let front = u .identifier ∷ body in
-      let w = acceptable-written u here its-row (nine .termination) d (parts .0) (parts .1) in
+      let more : n ≡ suc (n - 1) = omega arith in
+      let first : take n d ≡ front =
+      ap₂ take more (drop-cons d 0 0 (omega arith)) ∙ ap (λ (b : ℕ). b ∷ body) (datagram-first u d good) in
+      let bytes-only : AllBytes front = subst AllBytes first (bytes-take n (parts .0)) in
       record {
         line = nine .line;
         listed = nine .listed;
         identifier = nine .identifier;
         body = body;
-        check = fourBytes (check32 front);
-        whole = unfold written in w;
+        check = checkSent front;
+        whole =
+            acceptable-completed u here its-row (nine .termination) d (parts .0) (parts .1)
+            ∙ ap (completed (laid u here its-row (nine .termination))) first
+            ∙ completed-by here (terminated u) front;
         bytes = parts .0;
-        before = omega (arith, body-length d good, its-before, long-enough .0);
-        four = refl;
-        right = four-right front;
+        before = omega (arith, length-take-le (n - 1) (drop 1 d) (omega (arith, length-drop 1 d)), its-before, long-enough .0);
+        four = inBytes-length 4 (check32 front);
+        right = check-value front bytes-only;
       }
 
   module _ (d : List ℕ) (m : MadeUp u d) where
@@ -138,39 +141,31 @@ module _ (u : Setup) (e : setupNumber u ≡ none) where
     check-bytes =
         subst AllBytes (ap (take 4) behind-front ∙ take-at (m .check) tail 4 (m .four)) (bytes-take 4 (bytes-drop (length front) (m .bytes)))
 
-    check-is : m .check ≡ fourBytes (check32 front)
+    check-is : m .check ≡ checkSent front
     unfolding check32
     check-is =
-        bigEndian-injective (m .check) (fourBytes (check32 front)) check-bytes (four-bytes (check32 front) (check32-lt front front-bytes)) (m .four)
-        (m .right ∙ sym (four-value (check32 front)))
+        bigEndian-injective (m .check) (checkSent front) check-bytes (inBytes-bytes 4 (check32 front)) (m .four ∙ sym (inBytes-length 4 (check32 front)))
+        (m .right ∙ sym (check-value front front-bytes))
 
-    written-is : d ≡ written (u .identifier) (layoutOf its (terminated u)) (m .body)
-    unfolding written
-    written-is = m .whole ∙ ap (λ (c : List ℕ). front ++ (c ++ tail)) check-is
+    completed-is : d ≡ completed (layoutOf its (terminated u)) front
+    completed-is = m .whole ∙ ap (λ (c : List ℕ). front ++ (c ++ tail)) check-is ∙ sym (completed-by its (terminated u) front)
 
     datagram-made : isDatagram u d ≡ true
     unfolding isDatagram
     datagram-made =
         and-true (all-areBytes d (m .bytes))
-        (ap (acceptable u) written-is
-        ∙ written-acceptable u its (listed u e (m .line) (m .listed) (m .identifier)) (nine .termination) (m .body)
-        (m .before ∙ sym (before-check u e (m .line) (m .listed) (m .identifier))))
+        (ap (acceptable u) completed-is
+        ∙ completed-acceptable u its (listed u e (m .line) (m .listed) (m .identifier)) (nine .termination) front front-bytes
+        (m .before ∙ sym (before-check u e (m .line) (m .listed) (m .identifier))) refl)
 
-  -- one with zeros between the identifier and the check
-  zeros-bytes : (n : ℕ) → AllBytes (replicate n 0)
-  zeros-bytes zero = bytes-nil
-  zeros-bytes (suc n) = bytes-cons (omega arith) (zeros-bytes n)
-
+  -- one is written for any values
   some-datagram : (d : List ℕ) × (isDatagram u d ≡ true)
   unfolding isDatagram
   some-datagram =
-      let n = bytes (partsOf here) in
-      let body : List ℕ = replicate (n - 1) 0 in
-      let l : suc (length body) ≡ n = omega (arith, length-replicate {A = ℕ} (n - 1) 0, long-enough .0) in
-      let d = written (u .identifier) (layoutOf here (terminated u)) body in (
+      let v = fieldValues (besidesReadings (fieldsOf 0 [])) in
+      let d = madeDatagram u [] v in (
         d,
-        and-true (all-areBytes d (written-bytes u here its-row (nine .termination) body l (zeros-bytes (n - 1))))
-            (written-acceptable u here its-row (nine .termination) body l),
+        and-true (all-areBytes d (made-bytes u here its-row (nine .termination) [] v)) (made-acceptable u here its-row (nine .termination) [] v),
       )
 
 -- ---- folding
@@ -219,6 +214,9 @@ paper-rules =
       not-kept = λ u e group n. other-not-kept u (number-accepted u e) group n;
       inside = inside-passes;
       passes = passes-inside;
+      inside-widths = fifteen.inside-passes;
+      passes-widths = fifteen.passes-inside;
+      worked = worked;
       not-above = floor-not-above;
       greatest = floor-greatest;
       folded = folded;

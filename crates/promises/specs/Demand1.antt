@@ -1,18 +1,21 @@
--- Demand 1 (00-mission): of each call that 01 names, and of the two that write lines beside it, what comes back of the memory lent to it, and which
--- numbers can come out.
+-- Demand 1 (00-mission): of each call that 01 and 02 name, and of the two that write lines beside it, what comes back of the memory lent to it, and
+-- which numbers can come out.
 -- Received bytes are lent as `&[u8]`, which no function can write; that every call ends, and judges its own input, is the language's: no public
 -- function has a `requires`.
 use Prim.Native.Nat.{ℕ, _≤_, _<_}
-use mathlib.Core.Bool.{false}
+use mathlib.Core.Bool.{true, false}
 use mathlib.Core.List.{List, [], _∷_, _++_}
 use mathlib.Core.Logic.{_⊎_}
 use mathlib.Core.Option.{Option, none, some}
 use mathlib.Core.Path.{_≡_}
 use lib.IntN.{ℤ}
 use lib.ListN.{length, drop, replicate}
-use Rattle.setup.specs.Setup.{Rule, firstNumber, rulingNumber, setupNumber, rulingOn, zeroSetup}
+use Rattle.setup.specs.Setup.{Rule, firstNumber, rulingNumber, setupNumber, rulingOn, zeroSetup, lengthOf}
 use Rattle.setup.specs.declared.Setup.{Setup}
 use Rattle.setup_line.specs.SetupLine as line
+use Rattle.made_datagram.specs.Making as making
+use Rattle.made_datagram.specs.Making.{madeDatagram, makingRules, madeNumber, madeBytes, madeAnswer, madeBuffer}
+use Rattle.made_datagram.specs.declared.Values.{Values}
 use Rattle.gaps.specs.declared.Gap.{Gap}
 use Rattle.motion.specs.Totals.{noAxis, axisAt}
 use Rattle.motion.specs.declared.Totals.{Totals}
@@ -90,7 +93,9 @@ pub record LineWritten
       (lineBuffer b u ordinal counter latency gap readings statuses totals)
   pub numbers :
       {n : ℕ} → writtenNumber (lineAnswer b u ordinal counter latency gap readings statuses totals) ≡ some n → Between 4 9 n ⊎ Between 13 14 n
-  -- 14 refuses a line that nothing before it does exactly if the buffer is shorter than the line
+  -- 4 to 9 are checked first; 14 refuses a line that nothing before it does exactly if the buffer is shorter than the line
+  pub setup-first :
+      {n : ℕ} → setupNumber u ≡ some n → writtenNumber (lineAnswer b u ordinal counter latency gap readings statuses totals) ≡ some n
   pub fits :
       setupNumber u ≡ none → outside ordinal readings totals ≡ false
       → length (lineText u ordinal counter latency gap readings statuses totals) ≤ length b
@@ -144,6 +149,22 @@ pub record PieceReceived (s : Session) (p b : List ℕ) : Type 0 where
       length (s .held) ≡ 64 → receivedNumber (batchOf s p (length b) .answer) ≡ none
       → (os : List Datagram) × (rs : List Report) × (t : Session) × Calls s (p ∷ []) os rs t
 
+-- writing a datagram into the lent buffer b, `making::write_datagram` (02, 2.1)
+pub record DatagramMade (b : List ℕ) (u : Setup) (readings : List (List ℤ)) (v : Values) : Type 0 where
+  -- by 4 to 9, 15 and 16, or the datagram
+  pub front :
+      let answer = madeAnswer b u readings v in
+      AtFront (makingRules u readings v (length b)) (madeDatagram u readings v) b (madeNumber answer) (madeBytes answer) (madeBuffer b u readings v)
+  pub numbers : {n : ℕ} → madeNumber (madeAnswer b u readings v) ≡ some n → Between 4 9 n ⊎ Between 15 16 n
+  -- 4 to 9 are checked first, then 15, then 16, which refuses exactly a buffer shorter than L; L is the number of bytes told
+  pub setup-first : {n : ℕ} → setupNumber u ≡ some n → madeNumber (madeAnswer b u readings v) ≡ some n
+  pub outside : setupNumber u ≡ none → making.outside u readings v ≡ true → madeNumber (madeAnswer b u readings v) ≡ some 15
+  pub too-short :
+      setupNumber u ≡ none → making.outside u readings v ≡ false → length b < lengthOf u → madeNumber (madeAnswer b u readings v) ≡ some 16
+  pub fits :
+      setupNumber u ≡ none → making.outside u readings v ≡ false → lengthOf u ≤ length b
+      → (madeNumber (madeAnswer b u readings v) ≡ none) × (madeBytes (madeAnswer b u readings v) ≡ lengthOf u)
+
 pub record Demand1 : Type 0 where
   pub line-read : (l : List ℕ) → LineRead l
   pub setup-judged : (u : Setup) → SetupJudged u
@@ -156,3 +177,4 @@ pub record Demand1 : Type 0 where
       (b : List ℕ) (shown : Shown) (ordinal counter latency : ℕ) (gap : Gap) (readings : List (List ℤ)) (statuses : List ℕ) (totals : Totals)
       → ShownWritten b shown ordinal counter latency gap readings statuses totals
   pub piece-received : (s : Session) (p b : List ℕ) → PieceReceived s p b
+  pub datagram-made : (b : List ℕ) (u : Setup) (readings : List (List ℤ)) (v : Values) → DatagramMade b u readings v

@@ -1,5 +1,5 @@
 -- What the rules say that the other promises are stated by, as facts: so that a rule that is wrong in its definition and in the code alike is shut out
--- here (01, The setup line; Layout by identifier; The scan; Status, doubles, gaps; Totals; The text line; Bench cases).
+-- here (01, The setup line; Layout by identifier; The scan; Status, doubles, gaps; Totals; The text line; Bench cases; 02, 2.1).
 use Prim.Native.Nat.{ℕ, suc, _+_, _*_, _/_, _%_, _^_, _≤_, _<_}
 use mathlib.Core.Bool.{Bool, true, false, _||_, cond}
 use mathlib.Core.List.{List, [], _∷_, _++_}
@@ -19,6 +19,10 @@ use Rattle.setup.specs.Setup.{setupNumber, lengthOf}
 use Rattle.setup.specs.AcceptedSetup.{lineOfTable, PassesNine}
 use Rattle.setup.specs.declared.Setup.{Setup}
 use Rattle.wire.specs.Fields.{groups, temperatureSets, fieldsOf}
+use Rattle.made_datagram.specs.Making as making
+use Rattle.made_datagram.specs.PassedValues.{PassesFifteen}
+use Rattle.made_datagram.specs.Worked.{Worked}
+use Rattle.made_datagram.specs.declared.Values.{Values}
 use Rattle.gaps.specs.Gaps.{datagrams, elapsed, missedAt}
 use Rattle.motion.specs.Status.{isSet, fit}
 use Rattle.motion.specs.Totals.{keeps}
@@ -87,6 +91,11 @@ pub record PaperRules : Type 0 where
       (ordinal : ℕ) (readings : List (List ℤ)) (totals : Totals) → outside ordinal readings totals ≡ false → PassesThirteen ordinal readings totals
   pub passes :
       (ordinal : ℕ) (readings : List (List ℤ)) (totals : Totals) → PassesThirteen ordinal readings totals → outside ordinal readings totals ≡ false
+  -- 15: it lets pass values of a datagram of which no clause fails, and no others
+  pub inside-widths : (u : Setup) (readings : List (List ℤ)) (v : Values) → making.outside u readings v ≡ false → PassesFifteen u readings v
+  pub passes-widths : (u : Setup) (readings : List (List ℤ)) (v : Values) → PassesFifteen u readings v → making.outside u readings v ≡ false
+  -- a datagram that carries every part, byte by byte
+  pub worked : Worked
   -- rounded down is the greatest whole number not above
   pub not-above : (z : ℤ) (d : ℕ) → 0 < d → (floor z d *ℤ pos d) ≤ℤ z
   pub greatest : (z q : ℤ) (d : ℕ) → 0 < d → (q *ℤ pos d) ≤ℤ z → q ≤ℤ (floor z d)

@@ -62,7 +62,7 @@ numbered aux = refl
 numbered counter = refl
 numbered latency = refl
 
-same-part : (p q : Part) → place p ≡ place q → p ≡ q
+pub same-part : (p q : Part) → place p ≡ place q → p ≡ q
 same-part p q e = sym (numbered p) ∙ ap (λ n. getD inOrder n identifier) e ∙ numbered q
 
 same-size : (p q : Part) → eqb (place p) (place q) ≡ true → size p ≤ size q

@@ -3,9 +3,11 @@ use Prim.Native.Nat.{ℕ, _≤_}
 use native.Mathlib.Omega.{arith}
 use mathlib.Core.Bool.{Bool, true, false, cond}
 use mathlib.Core.List.{List, [], _∷_, _++_}
+use mathlib.Core.Logic.{_⊎_, inl, inr}
 use mathlib.Core.Option.{Option, none, some}
 use mathlib.Core.Path.{_≡_, refl, sym, ap, _∙_}
-use Rattle.setup.specs.Setup.{Rule, firstNumber, rulingNumber, rulingWith, firstOf, setupRules, setupNumber, rulingOn}
+use lib.ListN.{length, drop}
+use Rattle.setup.specs.Setup.{Rule, firstNumber, rulingNumber, rulingWith, firstOf, bufferBy, setupRules, setupNumber, rulingOn}
 use Rattle.setup.specs.declared.Setup.{Setup}
 use Rattle.setup.specs.declared.Ruling.{Ruling}
 use Rattle.setup.specs.declared.Ruling.the-variants.{Accepted, Refused}
@@ -64,6 +66,14 @@ number-within low high (r ∷ rs) {n} w e = by (r .applies) e (number-within low
 pub first-within : (low high : ℕ) (rs : List Rule) {n : ℕ} → Within low high rs → firstOf rs ≡ Refused n → (low ≤ n) × (n ≤ high)
 first-within low high rs w e = number-within low high rs w (sym (first-number rs) ∙ ap rulingNumber e)
 
+-- ---- what a ruling leaves of a lent buffer
+
+pub buffer-refused : (j : Ruling) (text b : List ℕ) {n : ℕ} → j ≡ Refused n → bufferBy j text b ≡ b
+buffer-refused j text b e = rw e
+
+pub buffer-accepted : (j : Ruling) (text b : List ℕ) → j ≡ Accepted → bufferBy j text b ≡ text ++ drop (length text) b
+buffer-accepted j text b e = rw e
+
 -- ---- accepted is what no rule applies to
 
 abbrev pub NoneApplies : List Rule → Type 0
@@ -100,3 +110,20 @@ first-accepted rs ss e = ap rulingWith (none-before rs ss (none-applies rs e))
 
 pub first-refused : (rs ss : List Rule) {n : ℕ} → firstOf rs ≡ Refused n → firstOf (rs ++ ss) ≡ Refused n
 first-refused rs ss e = ap rulingWith (some-before rs ss (sym (first-number rs) ∙ ap rulingNumber e))
+
+-- and what the two together say is said by one of them
+pub refused-split : (rs ss : List Rule) {n : ℕ} → firstOf (rs ++ ss) ≡ Refused n
+    → (firstOf rs ≡ Refused n) ⊎ (firstOf ss ≡ Refused n)
+refused-split rs ss {n} e = by (firstOf rs) refl
+  where
+    by : (j : Ruling) → firstOf rs ≡ j → (firstOf rs ≡ Refused n) ⊎ (firstOf ss ≡ Refused n)
+    by Accepted a = inr (sym (first-accepted rs ss a) ∙ e)
+    by (Refused m) a = inl (a ∙ sym (first-refused rs ss a) ∙ e)
+
+pub accepted-split : (rs ss : List Rule) → firstOf (rs ++ ss) ≡ Accepted
+    → (firstOf rs ≡ Accepted) × (firstOf ss ≡ Accepted)
+accepted-split rs ss e = by (firstOf rs) refl
+  where
+    by : (j : Ruling) → firstOf rs ≡ j → (firstOf rs ≡ Accepted) × (firstOf ss ≡ Accepted)
+    by Accepted a = (a, sym (first-accepted rs ss a) ∙ e)
+    by (Refused m) a = let f = first-refused rs ss a in let z : _≡_ {A = ℕ} 0 1 = cc in absurd (omega arith)

@@ -1,10 +1,10 @@
 -- 01, The setup line: a setup's values; and 'What is turned down': 4 to 9 of a setup given as values.
 use Prim.Native.Nat.{ℕ}
 use mathlib.Core.Bool.{Bool, true, false, not, _&&_, _||_, cond}
-use mathlib.Core.List.{List, [], _∷_}
+use mathlib.Core.List.{List, [], _∷_, _++_}
 use mathlib.Core.Option.{Option, none, some}
 use lib.Dec.{eqb, ltb}
-use lib.ListN.{getD, replicate}
+use lib.ListN.{length, getD, drop, replicate}
 use Rattle.setup.specs.Layout.{layoutOf, lengthIn, rowAt, groupsCarried}
 use Rattle.setup.specs.declared.Listing.{Listing}
 use Rattle.setup.specs.declared.Listing.the-variants.{Listed, Unlisted}
@@ -58,6 +58,11 @@ rulingWith (some n) = Refused n
 -- the ruling by rules in checking order
 abbrev pub firstOf : List Rule → Ruling
 firstOf rs = rulingWith (firstNumber rs)
+
+-- a lent buffer at exit: what is written from the front and every later byte as it was; or, refused, all as it was
+abbrev pub bufferBy : Ruling → List ℕ → List ℕ → List ℕ
+bufferBy Accepted text b = text ++ drop (length text) b
+bufferBy (Refused n) text b = b
 
 -- 4: the rate is one of the six
 abbrev pub rateListed : ℕ → Bool

@@ -4,3 +4,4 @@ pub mod Digits
 pub mod Written
 pub mod LineAnswers
 pub mod Example
+pub mod LineEnds

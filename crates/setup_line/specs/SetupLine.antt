@@ -1,5 +1,5 @@
 -- 01, The setup line: its nine fields, how each is written, and what is turned down of a line by 1 to 9.
-use Prim.Native.Nat.{ℕ, _+_, _*_, _-_}
+use Prim.Native.Nat.{ℕ, suc, _+_, _*_, _-_}
 use mathlib.Core.Bool.{Bool, true, not, _&&_, _||_, cond}
 use mathlib.Core.List.{List, [], _∷_}
 use lib.Dec.{eqb, ltb, leb}
@@ -97,3 +97,8 @@ readWith (Refused n) s = record { answer = Refused n; setup = zeroSetup }
 
 unfoldable pub lineRead : List ℕ → LineRead
 lineRead line = readWith (firstOf (lineRules line)) (setupWritten line)
+
+-- 01, The text line: where the first line of bytes ends, at its 0x0A or with the bytes
+unfoldable pub lineEnd : List ℕ → ℕ
+lineEnd [] = 0
+lineEnd (b ∷ s) = cond (eqb b 0x0A) 0 (suc (lineEnd s))

@@ -5,7 +5,7 @@ ghost use Prim.Native.Nat.{_+_, _≤_, _<_};
 ghost use lib.ListN.{length, drop};
 ghost use Rattle.setup.specs.Setup.{zeroSetup};
 ghost use Rattle.setup.specs.declared.Ruling.the-variants.{Refused};
-ghost use Rattle.setup_line.specs.SetupLine.{fieldsOf, fieldAt, isHexDigit, isDigit, digitValue, allDigits, decimalWritten, identifierWritten, decimalValue, identifierValue, threeWritten, threeValues, lineWritten, setupWritten, lineRead};
+ghost use Rattle.setup_line.specs.SetupLine.{fieldsOf, fieldAt, isHexDigit, isDigit, digitValue, allDigits, decimalWritten, identifierWritten, decimalValue, identifierValue, threeWritten, threeValues, lineWritten, setupWritten, lineRead, lineEnd};
 use setup::Ruling;
 use setup::Setup;
 
@@ -31,7 +31,7 @@ fn field_end(line: &[u8], from: usize) -> usize
 }
 
 // The field k of a line, counted from 0; empty where the line has fewer.
-fn field(line: &[u8], k: usize) -> &[u8]
+pub fn field(line: &[u8], k: usize) -> &[u8]
     ensures { λ r. ⌜ now r ≡ fieldAt (now (line .entry)) k ⌝ }
 {
     let mut at: usize = 0;
@@ -48,7 +48,8 @@ fn field(line: &[u8], k: usize) -> &[u8]
     &line[at..end]
 }
 
-fn field_count(line: &[u8]) -> usize
+// How many fields a line has.
+pub fn field_count(line: &[u8]) -> usize
     ensures { λ r. ⌜ r ≡ length (fieldsOf (now (line .entry))) ⌝ }
 {
     let mut count: usize = 1;
@@ -74,7 +75,8 @@ fn is_hex_digit(b: u8) -> bool
     ((0x30 <= b) & (b <= 0x39)) | ((0x41 <= b) & (b <= 0x46))
 }
 
-fn digit_value(b: u8) -> u8
+// The value of a digit 0 to 9 or A to F; 0 for any other byte.
+pub fn digit_value(b: u8) -> u8
     ensures { λ r. ⌜ r ≡ digitValue b ⌝ }
 {
     if (0x30 <= b) & (b <= 0x39) {
@@ -83,7 +85,8 @@ fn digit_value(b: u8) -> u8
     if is_hex_digit(b) { b - 0x37 } else { 0 }
 }
 
-fn all_digits(text: &[u8]) -> bool
+// Whether every byte is a digit 0 to 9.
+pub fn all_digits(text: &[u8]) -> bool
     ensures { λ r. ⌜ r ≡ allDigits (now (text .entry)) ⌝ }
 {
     let mut i: usize = 0;
@@ -241,4 +244,18 @@ pub fn read_line(line: &[u8]) -> LineRead
         },
         Ruling::Refused(number) => line_refused(number, zeros),
     }
+}
+
+// Where the first line of bytes ends: at its 0x0A, or with the bytes.
+pub fn line_end(bytes: &[u8]) -> usize
+    ensures { λ r. ⌜ r ≡ lineEnd (now (bytes .entry)) ⌝ }
+{
+    let mut i: usize = 0;
+    while i < bytes.len() {
+        if bytes[i] == 0x0A {
+            return i;
+        }
+        i += 1;
+    }
+    i
 }

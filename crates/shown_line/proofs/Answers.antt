@@ -4,17 +4,16 @@ use mathlib.Core.Bool.{true, false, not, _||_}
 use mathlib.Core.List.{List, _++_}
 use Prim.Native.Nat.{ℕ, _+_, _≤_, _<_}
 use native.Mathlib.Nat.{zero-add}
-use native.Mathlib.Omega.{arith}
 use borrow.Author.Tests.{not-false, lt-ltb, le-ltb}
 use lib.Dec.{eqb}
 use lib.IntN.{ℤ}
-use lib.ListN.{length, take, drop}
-use lib.Seq.{take-at}
+use lib.ListN.{length, drop}
 use Rattle.integers.proofs.Booleans.{or-split}
 use Rattle.integers.proofs.Buffers.{put-front}
 use Rattle.gaps.specs.declared.Gap.{Gap}
 use Rattle.motion.specs.declared.Totals.{Totals}
-use Rattle.shown_line.specs.Putting.{Put, roomAnswer, roomBuffer}
+use Rattle.integers.specs.Buffers.{Put}
+use Rattle.shown_line.specs.Putting.{roomAnswer, roomBuffer}
 use Rattle.shown_line.specs.ShownLine.{shownText, readingsFit, totalsWithin, outside}
 use Rattle.shown_line.specs.ShownLine.{shownRules, shownRuling, shownAnswer, shownBuffer}
 use Rattle.shown_line.specs.declared.Shown.{Shown}
@@ -22,11 +21,6 @@ use Rattle.shown_line.specs.declared.Written.{Written}
 use Rattle.shown_line.specs.declared.Written.the-variants.{Line, Refused}
 
 -- ---- a text and a buffer
-
--- what stands there then is the text
-pub put-taken : {b text b1 : List ℕ} {n : ℕ} → Put b 0 text b1 n → length text ≤ length b → take n b1 ≡ text
-put-taken {b} {text} {b1} {n} p h =
-    rw (p .bytes, put-front b text h) (take-at text (drop (length text) b) n (omega (arith, p .place)))
 
 module _ (b text : List ℕ) where
   pub room-short : length b < length text → (Refused 14 ≡ roomAnswer b text) × (b ≡ roomBuffer b text)

@@ -8,10 +8,11 @@ use lib.IntN.{ℤ}
 use Rattle.gaps.specs.declared.Gap.{Gap}
 use Rattle.motion.specs.declared.Totals.{Totals}
 use Rattle.shown_line.specs.Decimal.{digits}
-use Rattle.shown_line.specs.Putting.{Put, behind, headingText}
+use Rattle.integers.specs.Buffers.{Put}
+use Rattle.shown_line.specs.Putting.{behind, headingText}
 use Rattle.shown_line.specs.ShownLine.{missedField, groupsFields, shownFields, parted, shownText}
 use Rattle.shown_line.specs.declared.Shown.{Shown}
-use Rattle.shown_line.proofs.Putting.{then-put, put-length}
+use Rattle.integers.proofs.Buffers.{then-put, put-length}
 
 pub behind-append : (xs ys : List (List ℕ)) → behind (xs ++ ys) ≡ behind xs ++ behind ys
 behind-append [] ys = refl

@@ -13,7 +13,7 @@ use lib.ListN.{length, drop}
 use Rattle.setup.specs.Setup.{rule, firstNumber, rulingWith, firstOf}
 use Rattle.setup.specs.declared.Ruling as ruling
 use Rattle.setup.specs.declared.Ruling.{Ruling}
-use Rattle.setup.proofs.Rules.{none-applies, first-within}
+use Rattle.setup.proofs.Rules.{buffer-refused, none-applies, first-within}
 use Rattle.gaps.specs.declared.Gap.{Gap}
 use Rattle.motion.specs.declared.Totals.{Totals}
 use Rattle.shown_line.specs.ShownLine.{shownText, outside, roomRules, shownRules, writtenBy, writtenNumber, writtenBytes, shownRuling, shownAnswer, shownBuffer}
@@ -74,7 +74,7 @@ module _ (b : List ℕ) (shown : Shown) (ordinal counter latency : ℕ) (gap : G
 
   pub shown-keeps : {n : ℕ} → writtenNumber shown-answer ≡ some n → shown-buffer ≡ b
   unfolding shownAnswer shownBuffer
-  shown-keeps e = rw (refused-by shown-ruling shown-text e)
+  shown-keeps e = buffer-refused shown-ruling shown-text b (refused-by shown-ruling shown-text e)
 
   -- a written line alters only its own bytes, from the front
   shown-front : writtenNumber shown-answer ≡ none → shown-buffer ≡ shown-text ++ drop (writtenBytes shown-answer) b

@@ -1,19 +1,12 @@
--- A helper of proofs, no rule of 01: what the functions that write parts of a line ensure, the parts, and text put at a place of a buffer.
-use Prim.Native.Nat.{ℕ, _+_}
-use mathlib.Core.Path.{_≡_}
+-- A helper of proofs, no rule of 01: the parts of a line as the functions that write it have them, and a line that only 14 is left to refuse.
+use Prim.Native.Nat.{ℕ}
 use mathlib.Core.List.{List, [], _∷_, _++_}
 use lib.ListN.{length}
-use lib.Seq.{sets}
-use Rattle.setup.specs.Setup.{firstOf}
+use Rattle.setup.specs.Setup.{firstOf, bufferBy}
 use Rattle.gaps.specs.declared.Gap.{Gap}
 use Rattle.shown_line.specs.Decimal.{digits}
-use Rattle.shown_line.specs.ShownLine.{missedField, roomRules, writtenBy, bufferBy}
+use Rattle.shown_line.specs.ShownLine.{missedField, roomRules, writtenBy}
 use Rattle.shown_line.specs.declared.Written.{Written}
-
--- `after` is `before` with the text at `at` and every other byte as it was, and `end` is the place behind the text
-pub record Put (before : List ℕ) (at : ℕ) (text after : List ℕ) (end : ℕ) : Type 0 where
-  pub place : end ≡ at + length text
-  pub bytes : after ≡ sets before at text
 
 -- fields each behind its comma, as those after the first stand in a line
 abbrev pub behind : List (List ℕ) → List ℕ

@@ -5,9 +5,9 @@ use mathlib.Core.List.{List, [], _∷_, _++_}
 use mathlib.Core.Option.{Option, none, some}
 use lib.Dec.{eqb, ltb}
 use lib.IntN.{ℤ, pos}
-use lib.ListN.{length, getD, drop}
+use lib.ListN.{length, getD}
 use Rattle.integers.specs.Ranges.{inReading, within}
-use Rattle.setup.specs.Setup.{Rule, rule, firstOf}
+use Rattle.setup.specs.Setup.{Rule, rule, firstOf, bufferBy}
 use Rattle.setup.specs.declared.Ruling as ruling
 use Rattle.setup.specs.declared.Ruling.{Ruling}
 use Rattle.gaps.specs.declared.Gap.{Gap}
@@ -124,11 +124,6 @@ writtenNumber (Refused number) = some number
 abbrev pub writtenBytes : Written → ℕ
 writtenBytes (Line n) = n
 writtenBytes (Refused number) = 0
-
--- the buffer at exit: the line from the front and every later byte as it was, or all as it was
-abbrev pub bufferBy : Ruling → List ℕ → List ℕ → List ℕ
-bufferBy ruling.the-variants.Accepted text b = text ++ drop (length text) b
-bufferBy (ruling.the-variants.Refused number) text b = b
 
 module _ (b : List ℕ) (shown : Shown) (ordinal counter latency : ℕ) (gap : Gap) (readings : List (List ℤ)) (statuses : List ℕ) (totals : Totals) where
   unfoldable pub shownRuling : Ruling

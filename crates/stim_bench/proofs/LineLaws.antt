@@ -8,7 +8,7 @@ use lib.Seq.{length-take-le, take-take}
 use Rattle.setup.specs.Setup.{rulingOn}
 use Rattle.setup.specs.declared.Ruling.{Ruling}
 use Rattle.setup.specs.declared.Ruling.the-variants.{Accepted}
-use Rattle.setup_line.specs.SetupLine.{lineRead}
+use Rattle.setup_line.specs.SetupLine.{lineRead, lineEnd}
 use Rattle.setup_line.specs.declared.LineRead.{LineRead}
 use Rattle.setup_line.proofs.LineAnswers.{accepted-line}
 use Rattle.search.specs.Search.{limitsOf}
@@ -17,7 +17,7 @@ use Rattle.session.specs.declared.Opened.{Opened}
 use Rattle.session.specs.declared.Session.{Session}
 use Rattle.session.proofs.Opening.{opened}
 use Rattle.admission.proofs.FreshSessions.{fresh-sound}
-use Rattle.stim_bench.specs.Bench.{lineEnd, firstLine, Opens, HasLeft}
+use Rattle.stim_bench.specs.Bench.{firstLine, Opens, HasLeft}
 
 -- ---- the line was read out of the bytes
 

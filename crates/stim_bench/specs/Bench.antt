@@ -6,7 +6,7 @@ use mathlib.Core.List.{List, [], _∷_, _++_}
 use lib.Dec.{eqb}
 use lib.ListN.{length, take, drop}
 use Rattle.setup.specs.declared.Ruling.the-variants.{Accepted}
-use Rattle.setup_line.specs.SetupLine.{lineRead}
+use Rattle.setup_line.specs.SetupLine.{lineRead, lineEnd}
 use Rattle.search.specs.Search.{limitsOf}
 use Rattle.session.specs.Session.{opening}
 use Rattle.session.specs.declared.Session.{Session}
@@ -18,11 +18,6 @@ use Rattle.stim_bench.specs.declared.Got.the-variants.{Bytes, End, Faile
 use Rattle.stim_bench.specs.declared.PartFed.{PartFed}
 use Rattle.stim_bench.specs.declared.Gathered.{Gathered}
 use Rattle.stim_bench.specs.declared.BytesFed.{BytesFed}
-
--- where the first line of an input ends: at its 0x0A, or with the input
-unfoldable pub lineEnd : List ℕ → ℕ
-lineEnd [] = 0
-lineEnd (b ∷ s) = cond (eqb b 0x0A) 0 (suc (lineEnd s))
 
 -- the first line, without its 0x0A
 abbrev pub firstLine : List ℕ → List ℕ

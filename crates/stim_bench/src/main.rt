@@ -7,7 +7,7 @@ ghost use Rattle.setup_line.specs.SetupLine.{lineRead};
 ghost use Rattle.search.specs.Search.{limitsOf};
 ghost use Rattle.admission.specs.Admission.{pieceRuling};
 ghost use Rattle.whole_piece.specs.Lines.{linesIn, enough};
-ghost use Rattle.stim_bench.specs.Bench.{lineEnd, firstLine, Opens, GotWithin, Feedable, HasLeft, partLines, withText, IsGathered, AreFed};
+ghost use Rattle.stim_bench.specs.Bench.{firstLine, Opens, GotWithin, Feedable, HasLeft, partLines, withText, IsGathered, AreFed};
 use libc::STDERR_FILENO;
 use libc::STDIN_FILENO;
 use libc::STDOUT_FILENO;
@@ -73,20 +73,6 @@ fn part_end(at: usize, length: usize, most: usize) -> usize
     } else {
         at + most
     }
-}
-
-// Where the first line ends: at its 0x0A, or with the bytes.
-fn line_end(bytes: &[u8]) -> usize
-    ensures { λ r. ⌜ (r ≡ lineEnd (now (bytes .entry))) × (r ≤ length (now (bytes .entry))) ⌝ }
-{
-    let mut i: usize = 0;
-    while i < bytes.len() {
-        if bytes[i] == 0x0A {
-            return i;
-        }
-        i += 1;
-    }
-    i
 }
 
 // One read of standard input.
@@ -279,7 +265,7 @@ fn read_first_bytes(input: &mut [u8]) -> FirstBytes
             };
         };
         filled += count;
-        if line_end(&input[..filled]) < filled {
+        if setup_line::line_end(&input[..filled]) < filled {
             return FirstBytes {
                 filled: filled,
                 last: got,
@@ -309,7 +295,7 @@ fn run(input: &mut [u8], output: &mut [u8])
     if let Got::Failed = last {
         return;
     }
-    let end = line_end(&input[..filled]);
+    let end = setup_line::line_end(&input[..filled]);
     let line = setup_line::read_line(&input[..end]);
     let setup = line.setup;
     let answer = line.answer;

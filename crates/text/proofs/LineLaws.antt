@@ -1,6 +1,6 @@
 -- What 01 says of the answer and of the lent buffer, of every line: the numbers that refuse it, what a refusal and a written line leave, and
 -- how long a buffer has to be.
-use mathlib.Core.Path.{_≡_, refl, sym, ap, _∙_}
+use mathlib.Core.Path.{_≡_, sym, ap, _∙_}
 use mathlib.Core.Bool.{true, false}
 use mathlib.Core.List.{List, _∷_, _++_}
 use mathlib.Core.Option.{none, some}
@@ -16,7 +16,7 @@ use Rattle.setup.specs.declared.Setup.{Setup}
 use Rattle.setup.specs.declared.Ruling as ruling
 use Rattle.setup.specs.declared.Ruling.{Ruling}
 use Rattle.setup.proofs.Refusals.{judge-numbers}
-use Rattle.setup.proofs.Rules.{none-applies, first-accepted, first-refused}
+use Rattle.setup.proofs.Rules.{buffer-refused, none-applies, refused-split, accepted-split}
 use Rattle.gaps.specs.declared.Gap.{Gap}
 use Rattle.motion.specs.declared.Totals.{Totals}
 use Rattle.shown_line.specs.ShownLine.{readingsFit, totalsWithin, outside, roomRules, shownRules, writtenNumber, writtenBytes, longestLine}
@@ -26,24 +26,6 @@ use Rattle.shown_line.proofs.Longest.{MissedFits, shown-longest}
 use Rattle.shown_line.proofs.ShownLaws.{refused-by, written-by, number-by, last-fourteen, last-numbers, shown-enough, shown-short}
 use Rattle.text.specs.TextLine.{shownBy, lineText, lineRules, lineRuling, lineAnswer, lineBuffer}
 use Rattle.text.proofs.Answers.{accepted-answer}
-
--- ---- rules in two lists
-
-refused-split : (rs ss : List Rule) {n : ℕ} → firstOf (rs ++ ss) ≡ ruling.the-variants.Refused n
-    → (firstOf rs ≡ ruling.the-variants.Refused n) ⊎ (firstOf ss ≡ ruling.the-variants.Refused n)
-refused-split rs ss {n} e = by (firstOf rs) refl
-  where
-    by : (j : Ruling) → firstOf rs ≡ j → (firstOf rs ≡ ruling.the-variants.Refused n) ⊎ (firstOf ss ≡ ruling.the-variants.Refused n)
-    by ruling.the-variants.Accepted a = inr (sym (first-accepted rs ss a) ∙ e)
-    by (ruling.the-variants.Refused m) a = inl (a ∙ sym (first-refused rs ss a) ∙ e)
-
-accepted-split : (rs ss : List Rule) → firstOf (rs ++ ss) ≡ ruling.the-variants.Accepted
-    → (firstOf rs ≡ ruling.the-variants.Accepted) × (firstOf ss ≡ ruling.the-variants.Accepted)
-accepted-split rs ss e = by (firstOf rs) refl
-  where
-    by : (j : Ruling) → firstOf rs ≡ j → (firstOf rs ≡ ruling.the-variants.Accepted) × (firstOf ss ≡ ruling.the-variants.Accepted)
-    by ruling.the-variants.Accepted a = (a, sym (first-accepted rs ss a) ∙ e)
-    by (ruling.the-variants.Refused m) a = let f = first-refused rs ss a in let z : _≡_ {A = ℕ} 0 1 = cc in absurd (omega arith)
 
 -- ---- a line under a setup
 
@@ -88,7 +70,7 @@ module _ (b : List ℕ) (setup : Setup) (ordinal counter latency : ℕ) (gap : G
   -- a refusal writes nothing
   pub refused-keeps : {n : ℕ} → writtenNumber answer ≡ some n → buffer ≡ b
   unfolding lineAnswer lineBuffer
-  refused-keeps e = rw (refused-by ruling-line text e)
+  refused-keeps e = buffer-refused ruling-line text b (refused-by ruling-line text e)
 
   -- what is written has been accepted, and has room
   pub written-fits : writtenNumber answer ≡ none → (rulingOn setup ≡ ruling.the-variants.Accepted) × (outside ordinal readings totals ≡ false) × (length text ≤ length b)

@@ -4,7 +4,7 @@ use mathlib.Core.List.{List, _++_}
 use lib.IntN.{ℤ}
 use lib.ListN.{length}
 use Rattle.setup.specs.Layout.{groupsOf, groupsCarried}
-use Rattle.setup.specs.Setup.{Rule, firstOf, setupRules}
+use Rattle.setup.specs.Setup.{Rule, firstOf, bufferBy, setupRules}
 use Rattle.setup.specs.declared.Setup.{Setup}
 use Rattle.setup.specs.declared.Row.{Row}
 use Rattle.setup.specs.declared.Units.{Units}
@@ -12,7 +12,7 @@ use Rattle.setup.specs.declared.Ruling.{Ruling}
 use Rattle.gaps.specs.declared.Gap.{Gap}
 use Rattle.motion.specs.Totals.{groupsKept, keptBy}
 use Rattle.motion.specs.declared.Totals.{Totals}
-use Rattle.shown_line.specs.ShownLine.{shownText, shownRules, writtenBy, bufferBy}
+use Rattle.shown_line.specs.ShownLine.{shownText, shownRules, writtenBy}
 use Rattle.shown_line.specs.declared.Shown.{Shown}
 use Rattle.shown_line.specs.declared.Written.{Written}
 

@@ -3,7 +3,6 @@
 //! the plain reference. Ends with status 1 at the first difference.
 
 use std::env;
-use std::fmt::Write as _;
 use std::io::{Read, Write};
 use std::process::{ChildStdin, Command, ExitCode, ExitStatus, Stdio};
 use std::sync::atomic::{AtomicBool, AtomicU64, Ordering};
@@ -13,6 +12,7 @@ use std::thread;
 use std::time::Duration;
 
 use stim_reference::generate::input_of_case;
+use stim_reference::process::{hexadecimal, printable, write_in_chunks};
 use stim_reference::program::output_for;
 use stim_reference::random::Random;
 use stim_reference::STREAM_LIMIT;
@@ -22,9 +22,6 @@ const WORKERS: usize = 4;
 
 /// A program that prints nothing for so long has hung.
 const PATIENCE: Duration = Duration::from_secs(20);
-
-/// In a report no more bytes than this are shown of an input or output.
-const SHOWN_BYTES: usize = 2000;
 
 /// How the input of a case is written.
 #[derive(Clone, Copy, Debug, PartialEq)]
@@ -216,51 +213,5 @@ fn write_input(
         }
         return;
     }
-    // Up to some dozens of chunks, most of them small.
-    let usual_chunk = random.pick(&[1, 7, 30, 100]).max(input.len() / 40 + 1);
-    let mut rest = input;
-    while !rest.is_empty() {
-        let length = random.between(1, 2 * usual_chunk).min(rest.len());
-        let (chunk, behind) = rest.split_at(length);
-        if child_input
-            .write_all(chunk)
-            .and_then(|()| child_input.flush())
-            .is_err()
-        {
-            return;
-        }
-        rest = behind;
-        if random.one_in(2) {
-            thread::sleep(Duration::from_micros(30));
-        } else {
-            thread::yield_now();
-        }
-    }
-}
-
-fn hexadecimal(bytes: &[u8]) -> String {
-    let mut text = String::new();
-    for byte in bytes.iter().take(SHOWN_BYTES) {
-        write!(text, "{byte:02x}").expect("a String takes everything");
-    }
-    if bytes.len() > SHOWN_BYTES {
-        text.push_str(" and more");
-    }
-    text
-}
-
-/// An output, from its beginning or from shortly before the first difference.
-fn printable(bytes: &[u8], same_count: usize) -> String {
-    let start = if bytes.len() > SHOWN_BYTES {
-        same_count.saturating_sub(SHOWN_BYTES / 2)
-    } else {
-        0
-    };
-    let shown = &bytes[start..bytes.len().min(start + SHOWN_BYTES)];
-    let text = shown.escape_ascii().to_string().replace("\\n", "\\n\n");
-    if shown.len() < bytes.len() {
-        format!("(from byte {start}) {text} and more")
-    } else {
-        text
-    }
+    write_in_chunks(child_input, input, random);
 }

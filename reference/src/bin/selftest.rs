@@ -6,23 +6,27 @@
 use std::env;
 use std::io::{self, Read};
 
-use stim_reference::call::answer_text;
+use stim_reference::call::{answer_text, Call};
 use stim_reference::check::{check_of, check_unpadded};
 use stim_reference::datagram::{
     decode, double_of, encode, flagged_channels, folded_difference, gap_between, group_values,
     is_acceptable, is_fit, reading_of, Datagram, Fields, Gap, GroupValues,
 };
 use stim_reference::fast;
-use stim_reference::generate::{good_setup, input_of_case, stream};
+use stim_reference::generate::{good_setup, input_of_case, setup_of_case, stream};
+use stim_reference::generate_make;
 use stim_reference::layout::{datagram_length, layout_of, IDENTIFIERS};
 use stim_reference::line::{write_line, Line};
 use stim_reference::listed;
+use stim_reference::make::{write_datagram, Values};
+use stim_reference::make_program::made_for;
 use stim_reference::program::{output_for, split_input};
 use stim_reference::random::Random;
+use stim_reference::rehearsal::{read_number, read_rehearsal_line, Fault, LONGEST_REHEARSAL_LINE};
 use stim_reference::session::{feed, judge_session, open_session, Axis, Outcome, Session};
 use stim_reference::setup::{judge_setup, read_setup_line, setup_line, Setup};
 use stim_reference::whole_piece::{lines_of, receive_lines, ROOM_FOR_LINES};
-use stim_reference::{PIECE_LIMIT, STREAM_LIMIT};
+use stim_reference::{Refusal, PIECE_LIMIT, STREAM_LIMIT};
 
 const EXAMPLE_LINE: &[u8] = b"1000,90,0,3,0,0,21,0,0";
 
@@ -50,6 +54,13 @@ fn main() {
     line_refusals();
     listed_cases();
     whole_pieces();
+    made_example();
+    made_round_trips();
+    made_refusals();
+    rehearsals_of_streams();
+    making_program();
+    wrong_makers();
+    wrong_line_readers();
     fast_decimals();
     sessions_along_streams();
     plain_against_fast(seed, count);
@@ -419,7 +430,8 @@ fn sessions_along_streams() {
 
 /// The listed cases: what they say must come out is answered.
 fn listed_cases() {
-    let cases = listed::cases();
+    let mut cases = listed::cases();
+    cases.extend(listed::make_cases());
     for (call, expected) in &cases {
         let answer = answer_text(call);
         assert!(
@@ -487,6 +499,490 @@ fn whole_pieces() {
     }
     assert!(refusals > 100);
 }
+
+// ------------------------------------------------------------ made datagrams
+
+/// The two datagrams of the paper's example, made from its lines.
+fn made_example() {
+    let input = b"1000,90,0,3,0,0,21,0,0\n\
+                  1,2,0,0,8388600,0,0,0,0,0,0,,,,,,,,,,,,,,\n\
+                  2,4,0,0,-8388600,0,0,0,16,0,0,,,,,,,,,,,,,,\n";
+    let made = made_for(input);
+    let expected = [
+        example_datagram(8_388_600, 2),
+        example_datagram(-8_388_600, 4),
+    ];
+    assert_eq!(made.datagrams, expected.concat());
+    assert_eq!(made.messages, b"");
+}
+
+/// For every identifier and termination: what is written is accepted and read as
+/// the same fields, behind it nothing is touched, and an accepted datagram
+/// written again has the same bytes.
+fn made_round_trips() {
+    let mut written = 0;
+    let mut again = 0;
+    for number in 0..9 * 32 * 4 {
+        let Call::Make(setup, values, room, fill) = generate_make::datagram_call(11, number) else {
+            panic!("it makes datagrams");
+        };
+        let mut buffer = vec![fill; room];
+        let Ok(length) = write_datagram(&setup, &values, &mut buffer) else {
+            assert!(buffer.iter().all(|&byte| byte == fill));
+            continue;
+        };
+        written += 1;
+        let (datagram, behind) = buffer.split_at(length);
+        assert_eq!(Some(length), datagram_length(&setup));
+        assert!(is_acceptable(&setup, datagram));
+        assert!(behind.iter().all(|&byte| byte == fill));
+        let answer = feed(&open_session(&setup).unwrap(), datagram);
+        assert_eq!(answer.outcome, Outcome::Datagram);
+        assert_eq!(Values::of_fields(&answer.datagram.fields), *values);
+    }
+    let mut random = Random::new(12);
+    for number in 0..320 {
+        let setup = setup_of_case(&mut random, number);
+        let length = datagram_length(&setup).unwrap();
+        let bytes = stream(&mut random, &setup, 500);
+        for datagram in bytes.windows(length) {
+            if is_acceptable(&setup, datagram) {
+                again += 1;
+                let values = Values::of_fields(&decode(&setup, datagram));
+                let mut buffer = vec![0; length];
+                assert_eq!(write_datagram(&setup, &values, &mut buffer), Ok(length));
+                assert_eq!(buffer, datagram);
+            }
+        }
+    }
+    assert!(written > 400 && again > 1000);
+    println!("{written} datagrams made, {again} accepted ones made again");
+}
+
+fn made_refusals() {
+    let good = Values {
+        counter: 255,
+        latency: 65_535,
+        ..Values::ZEROS
+    };
+    let refused = |setup: &Setup, values: &Values, room: usize, refusal: Refusal| {
+        let mut buffer = vec![0xEE; room];
+        assert_eq!(write_datagram(setup, values, &mut buffer), Err(refusal));
+        assert!(buffer.iter().all(|&byte| byte == 0xEE));
+    };
+    let with = |change: &dyn Fn(&mut Values)| {
+        let mut values = good;
+        change(&mut values);
+        values
+    };
+    assert_eq!(write_datagram(&EXAMPLE, &good, &mut [0; 18]), Ok(18));
+    refused(&EXAMPLE, &good, 17, 16);
+    refused(&EXAMPLE, &with(&|values| values.counter = 256), 0, 15);
+    refused(&EXAMPLE, &with(&|values| values.counter = -1), 18, 15);
+    refused(&EXAMPLE, &with(&|values| values.latency = 65_536), 18, 15);
+    refused(&EXAMPLE, &with(&|values| values.latency = -1), 18, 15);
+    refused(&EXAMPLE, &with(&|values| values.statuses[0] = 256), 18, 15);
+    refused(&EXAMPLE, &with(&|values| values.statuses[1] = 1), 18, 15);
+    refused(&EXAMPLE, &with(&|values| values.readings[2][2] = 1), 18, 15);
+    refused(&EXAMPLE, &with(&|values| values.aux_status = 1), 18, 15);
+    refused(
+        &EXAMPLE,
+        &with(&|values| values.temperature_statuses[0] = 1),
+        18,
+        15,
+    );
+    refused(&Setup::ZEROS, &with(&|values| values.counter = 256), 0, 5);
+    // A list of values keeps each in its place.
+    let list = std::array::from_fn(|place| place as i32);
+    let values = Values::of_list(&list);
+    assert_eq!(values.list(), list);
+    assert_eq!(values.readings[2], [6, 7, 8]);
+    assert_eq!(values.statuses, [9, 10, 11]);
+    assert_eq!(values.temperatures[1], [15, 16, 17]);
+    assert_eq!(values.temperature_statuses, [21, 22, 23]);
+    assert_eq!([values.aux, values.aux_status], [24, 25]);
+    assert_eq!([values.counter, values.latency], [26, 27]);
+}
+
+/// What the receiving program prints of a stream makes datagrams of which it
+/// prints the same; without temperatures and AUX these are the stream's own.
+fn rehearsals_of_streams() {
+    let mut random = Random::new(13);
+    for number in 0..320 {
+        let setup = setup_of_case(&mut random, number);
+        let layout = layout_of(setup.identifier).unwrap();
+        let head = setup_line(&setup) + "\n";
+        let bytes = stream(&mut random, &setup, 500);
+        let printed = output_for(&[head.as_bytes(), &bytes].concat(), STREAM_LIMIT);
+        let made = made_for(&[head.as_bytes(), &printed].concat());
+        assert_eq!(made.messages, b"");
+        let printed_again = output_for(&[head.as_bytes(), &made.datagrams].concat(), STREAM_LIMIT);
+        assert_eq!(printed, printed_again);
+        if !layout.temperatures && !layout.auxiliary {
+            assert_eq!(made.datagrams, handed_out(&setup, &bytes));
+        }
+    }
+}
+
+/// The bytes of the datagrams that are handed out of a stream.
+fn handed_out(setup: &Setup, bytes: &[u8]) -> Vec<u8> {
+    let length = datagram_length(setup).unwrap();
+    let mut session = open_session(setup).unwrap();
+    let mut position = 0;
+    let mut datagrams = Vec::new();
+    loop {
+        let answer = feed(&session, &bytes[position..]);
+        session = answer.session;
+        position += answer.taken;
+        if answer.outcome != Outcome::Datagram {
+            return datagrams;
+        }
+        datagrams.extend_from_slice(&bytes[position - length..position]);
+    }
+}
+
+/// Lines and their numbers, and how an input may end.
+fn making_program() {
+    let good = "1,2,0,0,8388600,0,0,0,0,0,0,,,,,,,,,,,,,,";
+    let datagram = example_datagram(8_388_600, 2);
+    let made = |text: &str, count: usize, messages: &str| {
+        let made = made_for(text.as_bytes());
+        assert_eq!(made.datagrams, datagram.repeat(count), "{text}");
+        assert_eq!(String::from_utf8_lossy(&made.messages), messages, "{text}");
+    };
+    let head = "1000,90,0,3,0,0,21,0,0";
+    made("", 0, "line 1: refused 1\n");
+    made("\n", 0, "line 1: refused 1\n");
+    made(
+        &format!("{}\n{good}\n", "1".repeat(65)),
+        0,
+        "line 1: refused 1\n",
+    );
+    made(&format!("1001,{head}\n{good}\n"), 0, "line 1: refused 2\n");
+    made(
+        &format!("1001{}\n{good}", &head[4..]),
+        0,
+        "line 1: refused 4\n",
+    );
+    made(head, 0, "");
+    made(&format!("{head}\n"), 0, "");
+    made(&format!("{head}\n{good}"), 1, "");
+    made(&format!("{head}\n{good}\n"), 1, "");
+    made(
+        &format!("{head}\n\n{good}\n\n"),
+        1,
+        "line 2: neither 25 nor 39 fields\nline 4: neither 25 nor 39 fields\n",
+    );
+    made(
+        &format!(
+            "{head}\n{good},\n{good}\r\n{good}\n,256{}\n{}",
+            ",".repeat(23),
+            "x".repeat(513)
+        ),
+        1,
+        "line 2: neither 25 nor 39 fields\nline 3: a field is no whole number\n\
+         line 5: refused 15\nline 6: longer than 512 bytes\n",
+    );
+}
+
+// ------------------------------------------------------------- wrong versions
+
+type Maker = fn(&Setup, &Values, &mut [u8]) -> Result<usize, Refusal>;
+
+/// Writers that a careless reading of 2.1 gives. The stored records, and 400
+/// generated ones of any seed, tell each from the right one.
+const WRONG_MAKERS: [(&str, Maker); 15] = [
+    ("a check without its zero bytes", |setup, values, buffer| {
+        alter_check(setup, values, buffer, check_unpadded)
+    }),
+    (
+        "a check with its zero bytes in front",
+        |setup, values, buffer| {
+            alter_check(setup, values, buffer, |bytes| {
+                let zeros = vec![0; (4 - bytes.len() % 4) % 4];
+                check_unpadded(&[&zeros, bytes].concat())
+            })
+        },
+    ),
+    (
+        "a check with its lowest byte first",
+        |setup, values, buffer| {
+            alter_check(setup, values, buffer, |bytes| check_of(bytes).swap_bytes())
+        },
+    ),
+    (
+        "accelerometer and inclinometer swapped",
+        |setup, values, buffer| {
+            alter_values(setup, values, buffer, |values| {
+                values.readings.swap(1, 2);
+                values.statuses.swap(1, 2);
+            })
+        },
+    ),
+    (
+        "temperatures of two groups swapped",
+        |setup, values, buffer| {
+            alter_values(setup, values, buffer, |values| {
+                values.temperatures.swap(0, 1)
+            })
+        },
+    ),
+    ("counter cut modulo 256", |setup, values, buffer| {
+        alter_values(setup, values, buffer, |values| {
+            values.counter = values.counter.rem_euclid(256);
+        })
+    }),
+    ("latency cut modulo 65536", |setup, values, buffer| {
+        alter_values(setup, values, buffer, |values| {
+            values.latency = values.latency.rem_euclid(65_536);
+        })
+    }),
+    ("AUX cut modulo 2^24", |setup, values, buffer| {
+        alter_values(setup, values, buffer, |values| {
+            values.aux = values.aux << 8 >> 8
+        })
+    }),
+    (
+        "temperatures of 17 bits brought to the nearest",
+        |setup, values, buffer| {
+            alter_values(setup, values, buffer, |values| {
+                for temperature in values.temperatures.iter_mut().flatten() {
+                    *temperature = (*temperature).clamp(-32_768, 32_767);
+                }
+            })
+        },
+    ),
+    (
+        "statuses of groups not carried ignored",
+        |setup, values, buffer| {
+            let carries = layout_of(setup.identifier).map_or([true; 3], |layout| layout.carries);
+            let mut altered = *values;
+            for group in 0..3 {
+                if !carries[group] {
+                    altered.statuses[group] = 0;
+                }
+            }
+            write_datagram(setup, &altered, buffer)
+        },
+    ),
+    (
+        "temperatures of groups not carried ignored",
+        |setup, values, buffer| {
+            let carries = layout_of(setup.identifier).map_or([true; 3], |layout| layout.carries);
+            let mut altered = *values;
+            for group in 0..3 {
+                if !carries[group] {
+                    altered.temperatures[group] = [0; 3];
+                }
+            }
+            write_datagram(setup, &altered, buffer)
+        },
+    ),
+    ("16 before 15", |setup, values, buffer| {
+        if judge_setup(setup).is_ok() && Some(buffer.len()) < datagram_length(setup) {
+            return Err(16);
+        }
+        write_datagram(setup, values, buffer)
+    }),
+    ("15 before 4 to 9", |setup, values, buffer| {
+        let everything = Setup {
+            identifier: 0xAF,
+            ..EXAMPLE
+        };
+        if write_datagram(&everything, values, &mut [0; 65]) == Err(15) {
+            return Err(15);
+        }
+        write_datagram(setup, values, buffer)
+    }),
+    (
+        "a refusal that clears the buffer",
+        |setup, values, buffer| {
+            let written = write_datagram(setup, values, buffer);
+            if written.is_err() {
+                buffer.fill(0);
+            }
+            written
+        },
+    ),
+    (
+        "what is behind the datagram cleared",
+        |setup, values, buffer| {
+            let length = write_datagram(setup, values, buffer)?;
+            buffer[length..].fill(0);
+            Ok(length)
+        },
+    ),
+];
+
+/// Writes other values.
+fn alter_values(
+    setup: &Setup,
+    values: &Values,
+    buffer: &mut [u8],
+    change: fn(&mut Values),
+) -> Result<usize, Refusal> {
+    let mut altered = *values;
+    change(&mut altered);
+    write_datagram(setup, &altered, buffer)
+}
+
+/// Writes the datagram with another check.
+fn alter_check(
+    setup: &Setup,
+    values: &Values,
+    buffer: &mut [u8],
+    check: fn(&[u8]) -> u32,
+) -> Result<usize, Refusal> {
+    let length = write_datagram(setup, values, buffer)?;
+    let before_check = layout_of(setup.identifier).unwrap().bytes_before_check;
+    let other = check(&buffer[..before_check]);
+    buffer[before_check..before_check + 4].copy_from_slice(&other.to_be_bytes());
+    Ok(length)
+}
+
+fn wrong_makers() {
+    let stored = generate_make::stored_calls();
+    for (name, wrong) in WRONG_MAKERS {
+        let told_apart = |calls: &[Call]| {
+            let differs = |call: &&Call| {
+                let Call::Make(setup, values, room, fill) = call else {
+                    return false;
+                };
+                let mut buffer = vec![*fill; *room];
+                let mut other = buffer.clone();
+                let answer = write_datagram(setup, values, &mut buffer);
+                (answer, buffer) != (wrong(setup, values, &mut other), other)
+            };
+            calls.iter().filter(differs).count()
+        };
+        assert!(told_apart(&stored) > 0, "stored: {name}");
+        for seed in 1..=3 {
+            let calls: Vec<Call> = (0..400)
+                .map(|number| generate_make::datagram_call(seed, number))
+                .collect();
+            assert!(told_apart(&calls) > 0, "seed {seed}: {name}");
+        }
+    }
+    println!("{} wrong makers told apart", WRONG_MAKERS.len());
+}
+
+type LineReader = fn(&[u8]) -> Result<Values, Fault>;
+
+/// Readers of rehearsal lines that a careless reading gives. The stored records,
+/// and 900 generated ones of any seed, tell each from the right one.
+const WRONG_LINE_READERS: [(&str, LineReader); 14] = [
+    ("-0 is a number", |line| {
+        alter_fields(line, |_, field| (field == b"-0").then(|| b"0".to_vec()))
+    }),
+    ("+ before a number", |line| {
+        alter_fields(line, |_, field| {
+            field
+                .strip_prefix(b"+")
+                .filter(|rest| !rest.is_empty())
+                .map(<[u8]>::to_vec)
+        })
+    }),
+    ("zeros before a number", |line| {
+        alter_fields(line, |_, field| {
+            let digits = field.iter().position(|&byte| byte != b'0')?;
+            Some(field[digits..].to_vec())
+        })
+    }),
+    ("spaces around a number", |line| {
+        alter_fields(line, |_, field| Some(field.trim_ascii().to_vec()))
+    }),
+    ("? anywhere", |line| {
+        alter_fields(line, |_, field| (field == b"?").then(Vec::new))
+    }),
+    ("? nowhere", |line| {
+        alter_fields(line, |_, field| (field == b"?").then(|| b"x".to_vec()))
+    }),
+    ("an empty field is none", |line| {
+        alter_fields(line, |_, field| field.is_empty().then(|| b"x".to_vec()))
+    }),
+    ("ignored fields may be anything", |line| {
+        alter_fields(line, |place, _| {
+            let is_total = (4..25).contains(&place) && (place - 4) % 7 > 3;
+            (place == 0 || is_total).then(Vec::new)
+        })
+    }),
+    ("numbers cut to 32 bits", |line| {
+        alter_fields(line, |_, field| {
+            read_number(field)?;
+            let number: i128 = std::str::from_utf8(field).ok()?.parse().ok()?;
+            Some((number as i32).to_string().into_bytes())
+        })
+    }),
+    ("a number of more than 10 digits is none", |line| {
+        alter_fields(line, |_, field| (field.len() > 11).then(|| b"x".to_vec()))
+    }),
+    ("0x0D at the end left out", |line| {
+        read_rehearsal_line(line.strip_suffix(b"\r").unwrap_or(line))
+    }),
+    ("511 bytes at most", |line| {
+        if line.len() >= LONGEST_REHEARSAL_LINE {
+            return Err(Fault::TooLong);
+        }
+        read_rehearsal_line(line)
+    }),
+    ("the count before the length", |line| {
+        let count = line.split(|&byte| byte == b',').count();
+        if count != 25 && count != 39 {
+            return Err(Fault::OtherCount);
+        }
+        read_rehearsal_line(line)
+    }),
+    ("the numbers before the count", |line| {
+        let mut fields = line.split(|&byte| byte == b',');
+        let is_short = line.len() <= LONGEST_REHEARSAL_LINE;
+        if is_short && fields.any(|field| field != b"?" && read_number(field).is_none()) {
+            return Err(Fault::NoNumber);
+        }
+        read_rehearsal_line(line)
+    }),
+];
+
+/// Reads a line in which some fields are others; only a line of the right length
+/// and count is altered.
+fn alter_fields(line: &[u8], change: fn(usize, &[u8]) -> Option<Vec<u8>>) -> Result<Values, Fault> {
+    match read_rehearsal_line(line) {
+        Err(Fault::TooLong) => Err(Fault::TooLong),
+        Err(Fault::OtherCount) => Err(Fault::OtherCount),
+        _ => {
+            let fields = line.split(|&byte| byte == b',').enumerate();
+            let altered: Vec<Vec<u8>> = fields
+                .map(|(place, field)| change(place, field).unwrap_or_else(|| field.to_vec()))
+                .collect();
+            read_rehearsal_line(&altered.join(&b','))
+        }
+    }
+}
+
+fn wrong_line_readers() {
+    let stored = generate_make::stored_calls();
+    for (name, wrong) in WRONG_LINE_READERS {
+        let told_apart = |calls: &[Call]| {
+            let differs = |call: &&Call| match call {
+                Call::RehearsalLine(line) => read_rehearsal_line(line) != wrong(line),
+                _ => false,
+            };
+            calls.iter().filter(differs).count()
+        };
+        assert!(told_apart(&stored) > 0, "stored: {name}");
+        for seed in 1..=3 {
+            let calls: Vec<Call> = (0..900)
+                .map(|number| generate_make::line_call(seed, number))
+                .collect();
+            assert!(told_apart(&calls) > 0, "seed {seed}: {name}");
+        }
+    }
+    println!(
+        "{} wrong readers of lines told apart",
+        WRONG_LINE_READERS.len()
+    );
+}
+
+// ---------------------------------------------------------- plain against fast
 
 /// Gives its bytes in irregular amounts.
 struct IrregularReader<'a> {

@@ -4,7 +4,8 @@
 //!
 //! `vectors stored PREFIX` writes the records that crates/probe keeps as its
 //! stdin, and what it must print: generated ones of judging, opening, feeding and
-//! writing, the listed ones, and generated ones of the other calls.
+//! writing, the listed ones, and generated ones of the other calls; then those of
+//! datagrams to write and of rehearsal lines.
 //!
 //! The form of a record and of an answer is said in the library's `call`.
 
@@ -16,8 +17,9 @@ use std::process::ExitCode;
 
 use stim_reference::call::{answer_text, record_of, Call};
 use stim_reference::datagram::{encode, Fields, Gap};
-use stim_reference::generate::{doubtful_setup_line, good_setup, stream};
-use stim_reference::layout::{datagram_length, layout_of, IDENTIFIERS};
+use stim_reference::generate::{doubtful_setup_line, setup_of_case, stream};
+use stim_reference::generate_make;
+use stim_reference::layout::{datagram_length, layout_of};
 use stim_reference::line::{judge_line, text_of, Line};
 use stim_reference::listed;
 use stim_reference::random::Random;
@@ -30,7 +32,7 @@ use stim_reference::{HIGHEST_READING, LOWEST_READING, PIECE_LIMIT, STREAM_LIMIT}
 const LONGEST_BUFFER: usize = 400;
 
 /// The generated records that crates/probe keeps.
-const STORED_SEED: u64 = 725;
+const STORED_SEED: u64 = generate_make::STORED_SEED;
 const STORED_SINGLE: usize = 660;
 const STORED_LINES: usize = 120;
 
@@ -84,17 +86,16 @@ fn stored_calls() -> Vec<Call> {
     stored.extend(first_calls(STORED_LINES, |number, calls| {
         add_lines_case(STORED_SEED, number, calls);
     }));
+    stored.extend(generate_make::stored_calls());
     stored
 }
 
 /// The first `count` calls of a seed, of every kind.
 fn calls(seed: u64, count: usize) -> Vec<Call> {
-    first_calls(count, |number, calls| {
-        if number % 5 == 4 {
-            add_lines_case(seed, number, calls);
-        } else {
-            add_single_case(seed, number, calls);
-        }
+    first_calls(count, |number, calls| match number % 5 {
+        3 => add_make_case(seed, number / 5, calls),
+        4 => add_lines_case(seed, number, calls),
+        _ => add_single_case(seed, number, calls),
     })
 }
 
@@ -108,6 +109,14 @@ fn first_calls(count: usize, add_case: impl Fn(u64, &mut Vec<Call>)) -> Vec<Call
     }
     calls.truncate(count);
     calls
+}
+
+/// One numbered datagram to write, and every other time a rehearsal line.
+fn add_make_case(seed: u64, number: u64, calls: &mut Vec<Call>) {
+    calls.push(generate_make::datagram_call(seed, number));
+    if number % 2 == 0 {
+        calls.push(generate_make::line_call(seed, number / 2));
+    }
 }
 
 /// One numbered case of reading a setup line or of whole pieces.
@@ -200,19 +209,6 @@ fn add_single_case(seed: u64, number: u64, calls: &mut Vec<Call>) {
                 forge(random, &mut session);
             }
             calls.push(Call::Feed(Box::new(session), piece));
-        }
-    }
-}
-
-/// A setup that isn't refused. Each 32 cases in a row have every identifier
-/// with each termination.
-fn setup_of_case(random: &mut Random, number: u64) -> Setup {
-    let identifier = u32::from(IDENTIFIERS[(number % 16) as usize]);
-    let termination = (number / 16 % 2) as u32;
-    loop {
-        let setup = good_setup(random);
-        if setup.identifier == identifier && setup.termination == termination {
-            return setup;
         }
     }
 }

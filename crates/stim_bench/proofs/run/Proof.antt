@@ -1,4 +1,5 @@
 -- `stim_bench::run` meets its contract: the line ends within the bytes that were read, and what it opens and where the stream begins is passed on. Assumes nothing.
+use Rattle.setup_line.proofs.LineEnds.{end-by}
 use Prim.Native.Nat.{_≤_}
 use mathlib.Core.Path.{_≡_, sym}
 use native.Mathlib.Omega.{arith}
@@ -37,7 +38,7 @@ line-end-requires : tie.Need-line-end-requires
 line-end-requires c κs = search needs
 
 line-within : (c : tie.After-line-end) → c .line-end .result ≤ c .before .before .before .before .before .read-first-bytes .result .filled
-line-within c = omega (arith, filled-long (c .before), c .line-end .ensures .1)
+line-within c = omega (arith, filled-long (c .before), end-by _ (c .line-end .ensures) .1)
 
 slice-reshare-prefix-read-line : tie.Need-slice-reshare-prefix-read-line
 slice-reshare-prefix-read-line c = omega (arith, line-within c)
@@ -62,7 +63,7 @@ refuse-line-requires : tie.Need-refuse-line-requires
 refuse-line-requires c κs =
     let f = c .before .before .before .before .before .before .before .before .before .before .before .before .read-first-bytes in
     let e = c .before .before .before .before .before .before .before .line-end in
-    line-answer (f .last .0) (f .result .filled) (e .result) (e .ensures .0) (line-within (c .before .before .before .before .before .before .before)) (c .before .before .before .before .before .read-line .ensures) (c .before .before .answer .given .1)
+    line-answer (f .last .0) (f .result .filled) (e .result) (e .ensures) (line-within (c .before .before .before .before .before .before .before)) (c .before .before .before .before .before .read-line .ensures) (c .before .before .answer .given .1)
 
 same-length-2 : tie.Need-same-length-2
 same-length-2 c = search needs
@@ -91,7 +92,7 @@ receive-requires c κs =
     let p = c .before .before .before .before .before .before .before .before .before .before .before .before .before .before .before .before .before .before .before .before .before .before .pre in
     let e = c .before .before .before .before .before .before .before .before .before .before .before .before .before .line-end in (
       (omega (arith, c .least .ensures), f .ensures, omega (arith, f .ensures, c .before .before .before .before .before .before .before .before .before .before .before .before .before .before .before .before .before .input .given, p), omega (arith, p)),
-      line-opens (f .last .0) (f .result .filled) (e .result) (e .ensures .0) (line-within (c .before .before .before .before .before .before .before .before .before .before .before .before .before)) (c .before .before .before .before .before .before .before .before .before .before .before .read-line .ensures) (f .ensures)
+      line-opens (f .last .0) (f .result .filled) (e .result) (e .ensures) (line-within (c .before .before .before .before .before .before .before .before .before .before .before .before .before)) (c .before .before .before .before .before .before .before .before .before .before .before .read-line .ensures) (f .ensures)
           (c .before .before .before .before .before .before .before .before .enum-told2 .given .1) (c .before .before .before .before .«open» .ensures) (c .least .ensures),
     )
 

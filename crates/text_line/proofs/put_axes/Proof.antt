@@ -4,11 +4,12 @@ use Prim.Native.Nat.{ℕ, _+_, _≤_}
 use lib.IntN.{pos}
 use lib.ListN.{length, getD}
 use Rattle.shown_line.specs.Decimal.{decimal}
-use Rattle.shown_line.specs.Putting.{Put, behind}
+use Rattle.integers.specs.Buffers.{Put}
+use Rattle.shown_line.specs.Putting.{behind}
 use Rattle.shown_line.specs.ShownLine.{shownIf}
 use Rattle.text_line.proofs.Elements.{element-casts, element-same}
 use Rattle.shown_line.proofs.Fields.{room-field}
-use Rattle.shown_line.proofs.Putting.{put-none, then-put, room-then}
+use Rattle.integers.proofs.Buffers.{put-none, then-put, room-then}
 use Rattle.text_line.proofs.put_axes.Statement.{statement}
 use Rattle.text_line.proofs.put_axes.Tie as tie
 

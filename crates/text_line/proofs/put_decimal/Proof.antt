@@ -9,7 +9,7 @@ use Rattle.integers.proofs.Parts.{parts-apart}
 use Rattle.integers.proofs.Signed.{passed, below-taken, below-left}
 use Rattle.shown_line.specs.Decimal.{digits, decimal}
 use Rattle.shown_line.proofs.Digits.{decimal-negative, decimal-positive}
-use Rattle.shown_line.proofs.Putting.{put-byte, then-put}
+use Rattle.integers.proofs.Buffers.{put-byte, then-put}
 use Rattle.text_line.proofs.put_decimal.Statement.{statement}
 use Rattle.text_line.proofs.put_decimal.Tie as tie
 

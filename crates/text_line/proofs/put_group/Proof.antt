@@ -7,7 +7,7 @@ use Rattle.shown_line.specs.Decimal.{digits}
 use Rattle.shown_line.specs.Putting.{behind}
 use Rattle.shown_line.specs.ShownLine.{shownIf, axisFields, totalFields, groupFields}
 use Rattle.shown_line.proofs.Fields.{room-field, room-fields, room-more, then-fields}
-use Rattle.shown_line.proofs.Putting.{then-put, room-then}
+use Rattle.integers.proofs.Buffers.{then-put, room-then}
 use Rattle.text_line.proofs.put_group.Statement.{statement}
 use Rattle.text_line.proofs.put_group.Tie as tie
 

@@ -7,7 +7,7 @@ use Rattle.shown_line.specs.Decimal.{digits}
 use Rattle.shown_line.specs.Putting.{behind}
 use Rattle.shown_line.specs.ShownLine.{missedField}
 use Rattle.shown_line.proofs.Fields.{room-field}
-use Rattle.shown_line.proofs.Putting.{put-none, then-put, room-first, room-then}
+use Rattle.integers.proofs.Buffers.{put-none, then-put, room-first, room-then}
 use Rattle.text_line.proofs.put_heading.Statement.{statement}
 use Rattle.text_line.proofs.put_heading.Tie as tie
 

@@ -7,7 +7,7 @@ use lib.ListN.{length, length-set}
 use Rattle.shown_line.specs.Putting.{behind, headingText}
 use Rattle.shown_line.specs.ShownLine.{groupsFields, shownText}
 use Rattle.shown_line.proofs.Fields.{line-text}
-use Rattle.shown_line.proofs.Putting.{put-byte, then-put, room-first, room-then}
+use Rattle.integers.proofs.Buffers.{put-byte, then-put, room-first, room-then}
 use Rattle.text_line.proofs.put_line.Statement.{statement}
 use Rattle.text_line.proofs.put_line.Tie as tie
 

@@ -3,7 +3,7 @@ use mathlib.Core.Path.{ap}
 use native.Mathlib.Omega.{arith}
 use lib.ListN.{length, length-set}
 use Rattle.shown_line.specs.ShownLine.{missedField}
-use Rattle.shown_line.proofs.Putting.{put-two}
+use Rattle.integers.proofs.Buffers.{put-two}
 use Rattle.text_line.proofs.put_missed.Statement.{statement}
 use Rattle.text_line.proofs.put_missed.Tie as tie
 

@@ -4,7 +4,7 @@ use lib.ListN.{length-set}
 use mir.Syntax.{w64}
 use mir.ValLaws.{toZ-ofZ}
 use native.Mathlib.Omega.{arith}
-use Rattle.shown_line.proofs.Putting.{put-byte, then-put}
+use Rattle.integers.proofs.Buffers.{put-byte, then-put}
 use Rattle.text_line.proofs.put_signed.Statement.{statement}
 use Rattle.text_line.proofs.put_signed.Tie as tie
 

@@ -3,7 +3,7 @@ use mathlib.Core.Path.{ap}
 use native.Mathlib.Omega.{arith}
 use lib.ListN.{length, length-set}
 use Rattle.shown_line.proofs.Digits.{digits-small, digits-two, digits-three}
-use Rattle.shown_line.proofs.Putting.{put-byte, put-two}
+use Rattle.integers.proofs.Buffers.{put-byte, put-two}
 use Rattle.text_line.proofs.put_small.Statement.{statement}
 use Rattle.text_line.proofs.put_small.Tie as tie
 

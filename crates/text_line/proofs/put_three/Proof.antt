@@ -1,7 +1,7 @@
 use borrow.Author.Needs.{needs}
 use native.Mathlib.Omega.{arith}
 use lib.ListN.{length-set}
-use Rattle.shown_line.proofs.Putting.{put-three}
+use Rattle.integers.proofs.Buffers.{put-three}
 use Rattle.text_line.proofs.put_three.Statement.{statement}
 use Rattle.text_line.proofs.put_three.Tie as tie
 

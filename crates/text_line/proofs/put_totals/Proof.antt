@@ -5,7 +5,7 @@ use lib.ListN.{length}
 use Rattle.shown_line.specs.Putting.{behind}
 use Rattle.shown_line.specs.ShownLine.{totalField}
 use Rattle.shown_line.proofs.Fields.{room-field}
-use Rattle.shown_line.proofs.Putting.{put-none, then-put, room-then}
+use Rattle.integers.proofs.Buffers.{put-none, then-put, room-then}
 use Rattle.text_line.proofs.put_totals.Statement.{statement}
 use Rattle.text_line.proofs.put_totals.Tie as tie
 

@@ -2,7 +2,7 @@ use borrow.Author.Needs.{needs}
 use mathlib.Core.Path.{_∙_}
 use lib.ListN.{length-set}
 use native.Mathlib.Omega.{arith}
-use Rattle.shown_line.proofs.Putting.{put-byte, then-put}
+use Rattle.integers.proofs.Buffers.{put-byte, then-put}
 use Rattle.text_line.proofs.put_unsigned.Statement.{statement}
 use Rattle.text_line.proofs.put_unsigned.Tie as tie
 

@@ -2,7 +2,7 @@ use borrow.Author.Needs.{needs}
 use mathlib.Core.Path.{sym}
 use native.Mathlib.Omega.{arith}
 use lib.Seq.{length-take-le}
-use Rattle.shown_line.proofs.Answers.{put-taken}
+use Rattle.integers.proofs.Buffers.{put-taken}
 use Rattle.text_line.proofs.write_apart.Statement.{statement}
 use Rattle.text_line.proofs.write_apart.Tie as tie
 

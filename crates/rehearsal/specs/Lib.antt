@@ -1,0 +1,4 @@
+-- The rehearsal line.
+pub mod RehearsalLine
+pub mod SentAgain
+pub mod WorkedLine

@@ -1,0 +1,2 @@
+-- The definitions that the contracts of `stim_make` cite.
+pub mod MadeLines
