@@ -9,6 +9,7 @@ use lib.IntN.{ℤ, pos, natAbs, _-ℤ_, _*ℤ_}
 use lib.Dec.{eqb}
 use lib.Seq.{length-take-le}
 use lib.ListN.{length, take, getD, length-map}
+use Rattle.integers.specs.Bytes.{joined}
 use Rattle.integers.proofs.Buffers.{padded-front}
 use Rattle.setup.specs.Setup.{rulingNumber, rulingOn, lengthOf}
 use Rattle.setup.specs.declared.Setup.{Setup}
@@ -24,7 +25,7 @@ use Rattle.motion.proofs.TrueChange.{kept-at-each, carried-at, place-of}
 use Rattle.scan.specs.Scan.{scan}
 use Rattle.scan.specs.Calls as calls
 use Rattle.scan.specs.Calls.{Report}
-use Rattle.scan.specs.Stream.{joined, Among, Bare, NoTen}
+use Rattle.scan.specs.Stream.{Among, Bare, NoTen}
 use Rattle.scan.specs.Carry.{steps, carriedAfter, Delivered}
 use Rattle.scan.proofs.AmongLaws.{among-scan}
 use Rattle.scan.proofs.CarryLaws.{told-at, length-told, among-each, joined-least}

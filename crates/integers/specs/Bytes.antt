@@ -1,7 +1,7 @@
 -- The values of bytes (01, Layout by identifier): the most significant byte comes first, readings are two's complement.
 use Prim.Native.Nat.{ℕ, zero, suc, _+_, _*_, _/_, _%_, _^_, _<_}
 use mathlib.Core.Bool.{Bool, true, cond, _&&_}
-use mathlib.Core.List.{List, [], _∷_}
+use mathlib.Core.List.{List, [], _∷_, _++_}
 use lib.Dec.{ltb}
 use lib.IntN.{ℤ, pos, _-ℤ_}
 use lib.ListN.{length, getD}
@@ -15,6 +15,11 @@ pub record AllBytes (bs : List ℕ) : Type 0 where
 unfoldable pub areBytes : List ℕ → Bool
 areBytes [] = true
 areBytes (b ∷ bs) = ltb b 256 && areBytes bs
+
+-- lists of bytes, one behind the other
+abbrev pub joined : List (List ℕ) → List ℕ
+joined [] = []
+joined (p ∷ ps) = p ++ joined ps
 
 -- the value of bytes as an unsigned number
 unfoldable pub bigEndian : List ℕ → ℕ

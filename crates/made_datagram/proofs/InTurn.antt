@@ -10,16 +10,17 @@ use lib.Dec.{eqb}
 use lib.ListN.{length, take, drop, length-append}
 use lib.Seq.{take-at, drop-at, drop-drop, take-add}
 use borrow.Author.Tests.{eqb-true, eq-eqb, not-true}
+use Rattle.integers.specs.Bytes.{joined}
 use Rattle.integers.proofs.Booleans.{and-split}
 use Rattle.setup.specs.Layout.{Part, widths, sum, size, bytes, place, carries, offset}
 use Rattle.setup.proofs.Layouts.{same-part}
 use Rattle.wire.specs.Fields.{window, cut, fieldsOfPart}
 use Rattle.wire.proofs.FieldPlaces.{window-within}
-use Rattle.made_datagram.specs.Making.{joined, inTurn}
+use Rattle.made_datagram.specs.Making.{inTurn}
 
 -- ---- what is written is read
 
-pub joined-length : (fs : List (List ℕ)) → length (joined fs) ≡ sum (map length fs)
+joined-length : (fs : List (List ℕ)) → length (joined fs) ≡ sum (map length fs)
 joined-length [] = refl
 joined-length (f ∷ fs) = omega (arith, length-append f (joined fs), joined-length fs)
 

@@ -87,7 +87,7 @@ zeros-none (s ∷ ss) = zeros-none ss
 
 -- ---- parts
 
-pub part-wide : (p : Part) → AllWide (widths p)
+part-wide : (p : Part) → AllWide (widths p)
 part-wide identifier = (omega arith, tt)
 part-wide gyro = (omega arith, (omega arith, (omega arith, (omega arith, tt))))
 part-wide accelerometer = (omega arith, (omega arith, (omega arith, (omega arith, tt))))

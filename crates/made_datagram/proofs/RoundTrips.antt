@@ -8,31 +8,31 @@ use lib.Dec.{eqb}
 use lib.IntN.{ℤ, pos}
 use lib.ListN.{length, getD, take}
 use borrow.Author.Tests.{eqb-true}
-use Rattle.integers.specs.Bytes.{AllBytes, inBytes, valueBytes}
+use Rattle.integers.specs.Bytes.{AllBytes, inBytes, valueBytes, joined}
 use Rattle.integers.proofs.Booleans.{or-split}
 use Rattle.integers.proofs.Bytes.{bytes-nil, bytes-append}
 use Rattle.integers.proofs.Values.{valueBytes-bytes}
 use Rattle.setup.specs.Layout.{Part, identifier, gyro, accelerometer, inclinometer, gyroTemperatures, accelerometerTemperatures}
-use Rattle.setup.specs.Layout.{inclinometerTemperatures, aux, counter, latency, widths, bytes, place, carries, offset, partsOf, partsAt, rowAt, layoutOf}
+use Rattle.setup.specs.Layout.{inclinometerTemperatures, aux, counter, latency, widths, bytes, place, carries, partsOf, rowAt}
 use Rattle.setup.specs.Setup.{rulingOn, terminated, lengthOf}
-use Rattle.setup.specs.Sensor.{rowOf}
 use Rattle.setup.specs.declared.Row.{Row}
-use Rattle.setup.specs.declared.Listing.{Listing}
 use Rattle.setup.specs.declared.Listing.the-variants.{Listed}
 use Rattle.setup.specs.declared.Setup.{Setup}
 use Rattle.setup.specs.declared.Ruling.the-variants as ruling
-use Rattle.setup.proofs.Rows.{every-row, listed-parts}
+use Rattle.setup.proofs.Rows.{every-row}
 use Rattle.setup.proofs.Layouts.{same-part}
 use Rattle.setup.proofs.Refusals as refusals
-use Rattle.wire.specs.Fields.{fieldsOfPart, Contents, contents, fieldsOf}
+use Rattle.wire.specs.Fields.{fieldsOfPart, Contents, contents, contentsOf, fieldsOf}
+use Rattle.wire.proofs.FieldBytes.{row-fields}
 use Rattle.acceptance.specs.Acceptable.{acceptable, completed}
 use Rattle.acceptance.proofs.Acceptance.{accepted}
 use Rattle.acceptance.proofs.Completed.{laid, listed-byte, completed-by, checkSent, completed-acceptable, completed-length, completed-bytes}
 use Rattle.acceptance.proofs.Completed.{acceptable-long, acceptable-completed}
 use Rattle.made_datagram.specs.declared.Values.{Values}
-use Rattle.made_datagram.specs.Making.{axesAndStatus, given, valuesRead, fieldsFor, joined, partsWith, datagramIn, madeDatagram, signs}
-use Rattle.made_datagram.specs.Making.{partOutside, givenParts, anyOf, outsideIn, outside}
+use Rattle.made_datagram.specs.Making.{axesAndStatus, given, valuesRead, fieldsFor, partsWith, datagramIn, madeDatagram, signs}
+use Rattle.made_datagram.specs.Making.{partOutside, givenParts, anyOf, outsideIn}
 use Rattle.made_datagram.specs.RoundTrip.{Shaped, RoundTrip}
+use Rattle.made_datagram.proofs.ListedRows.{row-outside, row-datagram}
 use Rattle.made_datagram.proofs.InTurn.{written-read, in-turn-same, distinct, read-written}
 use Rattle.made_datagram.proofs.PartValues.{parts-length, readAs, given-length, part-widths, part-back, part-zero, partRead, read-carried, read-absent, read-passes, read-again, given-read}
 
@@ -89,11 +89,6 @@ parts-distinct : (r : Row) → Distinct r
 unfolding partsOf
 parts-distinct = every-row Distinct ((refl, refl, refl, refl), (refl, refl, refl, refl), (refl, refl, refl, refl), (refl, refl, refl, refl))
 
--- the identifier stands first
-first-part : (r : Row) → (carries (partsOf r) identifier ≡ true) × (offset (partsOf r) identifier ≡ 0)
-unfolding partsOf
-first-part r = (refl, refl)
-
 bytes-joined : (ws : List ℕ) (zs : List ℤ) → AllBytes (joined (fieldsFor ws zs))
 bytes-joined [] zs = bytes-nil
 bytes-joined (w ∷ ws) [] = bytes-nil
@@ -109,17 +104,6 @@ parts-bytes values (p ∷ ps) = bytes-append (bytes-joined (widths p) (values p)
 module _ (u : Setup) (r : Row) (listed : rowAt (u .identifier) ≡ Listed r) (termination : u .termination ≤ 1) where
   abbrev i : ℕ
   i = u .identifier
-
-  parts-are : partsAt i ≡ partsOf r
-  parts-are = listed-parts i listed
-
-  pub fields-are : (d : List ℕ) → fieldsOf i d ≡ contents (partsOf r) d
-  unfolding fieldsOf
-  fields-are d = ap (λ (ps : List Part). contents ps d) parts-are
-
-  pub outside-is : (readings : List (List ℤ)) (v : Values) → outside u readings v ≡ outsideIn (partsOf r) (given i readings v)
-  unfolding outside
-  outside-is readings v = ap (λ (ps : List Part). outsideIn ps (given i readings v)) parts-are
 
   -- ---- what is written
   module _ (readings : List (List ℤ)) (v : Values) where
@@ -142,9 +126,9 @@ module _ (u : Setup) (r : Row) (listed : rowAt (u .identifier) ≡ Listed r) (te
     unfolding partsWith partsOf given valueBytes inBytes
     front-first = let h = listed-byte i listed in let e : i % 256 / 1 % 256 ≡ i = omega arith in e
 
-    pub datagram-is : madeDatagram u readings v ≡ completed (laid u r listed termination) front
-    unfolding madeDatagram datagramIn
-    datagram-is = ap (λ (l : Listing). completed (layoutOf (rowOf l) (terminated u)) (partsWith values (partsOf (rowOf l)))) listed
+    datagram-is : madeDatagram u readings v ≡ completed (laid u r listed termination) front
+    unfolding datagramIn
+    datagram-is = row-datagram u listed readings v
 
     pub made-acceptable : acceptable u (madeDatagram u readings v) ≡ true
     made-acceptable = ap (acceptable u) datagram-is ∙ completed-acceptable u r listed termination front (parts-bytes values (partsOf r)) front-length front-first
@@ -298,6 +282,7 @@ contents-shaped ps d =
 -- ---- of every setup that is not refused
 
 pub round-trip : (u : Setup) → rulingOn u ≡ ruling.Accepted → RoundTrip u
+unfolding contentsOf
 round-trip u ok =
     let k = refusals.accepted u ok in
     let r = k .row in
@@ -310,17 +295,17 @@ round-trip u ok =
       );
       read = λ readings v s e.
           let d = madeDatagram u readings v in
-          let inside : outsideIn (partsOf r) (given i readings v) ≡ false = sym (outside-is u r (k .listed) (k .termination) readings v) ∙ e in
-          rw (fields-are u r (k .listed) (k .termination) d)
+          let inside : outsideIn (partsOf r) (given i readings v) ≡ false = sym (row-outside u (k .listed) readings v) ∙ e in
+          rw (row-fields i d (k .listed))
           (given-same i readings (contents (partsOf r) d .readings) v (valuesRead (contents (partsOf r) d)) s (contents-shaped (partsOf r) d)
           (λ p n. given-read i (partsOf r) d p n ∙ made-read u r (k .listed) (k .termination) readings v inside p n));
       passes = λ d b g.
-          rw (fields-are u r (k .listed) (k .termination) d)
-          (outside-is u r (k .listed) (k .termination) (contents (partsOf r) d .readings) (valuesRead (contents (partsOf r) d))
+          rw (row-fields i d (k .listed))
+          (row-outside u (k .listed) (contents (partsOf r) d .readings) (valuesRead (contents (partsOf r) d))
           ∙ again-passes u r (k .listed) (k .termination) d b g);
-      again = λ d b g. rw (fields-are u r (k .listed) (k .termination) d) (again-same u r (k .listed) (k .termination) d b g);
+      again = λ d b g. rw (row-fields i d (k .listed)) (again-same u r (k .listed) (k .termination) d b g);
       told-apart = λ d e b c g h same.
           let back : (x : List ℕ) → AllBytes x → acceptable u x ≡ true → madeDatagram u (fieldsOf i x .readings) (valuesRead (fieldsOf i x)) ≡ x =
-          λ x b g. rw (fields-are u r (k .listed) (k .termination) x) (again-same u r (k .listed) (k .termination) x b g) in
+          λ x b g. rw (row-fields i x (k .listed)) (again-same u r (k .listed) (k .termination) x b g) in
           sym (back d b g) ∙ ap (λ (c : Contents). madeDatagram u (c .readings) (valuesRead c)) same ∙ back e c h;
     }

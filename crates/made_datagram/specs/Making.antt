@@ -7,7 +7,7 @@ use mathlib.Core.Option.{Option, none, some}
 use lib.Dec.{ltb}
 use lib.IntN.{ℤ, pos}
 use lib.ListN.{length, getD}
-use Rattle.integers.specs.Bytes.{Sign, signed, unsigned, valueBytes}
+use Rattle.integers.specs.Bytes.{Sign, signed, unsigned, valueBytes, joined}
 use Rattle.integers.specs.Ranges.{isZero, fits}
 use Rattle.setup.specs.Layout.{Part, identifier, gyro, accelerometer, inclinometer, gyroTemperatures, accelerometerTemperatures}
 use Rattle.setup.specs.Layout.{inclinometerTemperatures, aux, counter, latency, widths, Layout, layoutOf, rowAt, partsAt, carries}
@@ -68,11 +68,7 @@ fieldsFor [] zs = []
 fieldsFor (w ∷ ws) [] = []
 fieldsFor (w ∷ ws) (z ∷ zs) = valueBytes w z ∷ fieldsFor ws zs
 
--- fields one behind the other, and parts one behind the other
-abbrev pub joined : List (List ℕ) → List ℕ
-joined [] = []
-joined (f ∷ fs) = f ++ joined fs
-
+-- the fields of parts, one behind the other
 abbrev pub inTurn : (Part → List (List ℕ)) → List Part → List ℕ
 inTurn fields [] = []
 inTurn fields (p ∷ ps) = joined (fields p) ++ inTurn fields ps

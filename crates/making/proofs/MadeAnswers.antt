@@ -13,27 +13,25 @@ use Rattle.integers.specs.Bytes.{inBytes}
 use Rattle.integers.proofs.Buffers.{put-front, put-length, then-put, put-taken}
 use Rattle.integers.proofs.Values.{inBytes-length}
 use Rattle.crc.specs.Check.{check32}
-use Rattle.setup.specs.Layout.{Part, bytes, partsOf, rowAt, Layout, layoutOf, lengthIn}
+use Rattle.setup.specs.Layout.{Part, bytes, partsOf, Layout, layoutOf, lengthIn}
 use Rattle.setup.specs.Setup.{firstOf, bufferBy, setupRules, rulingOn, terminated}
-use Rattle.setup.specs.Sensor.{rowOf, sensorOf}
+use Rattle.setup.specs.Sensor.{sensorOf}
 use Rattle.setup.specs.declared.Row.{Row}
 use Rattle.setup.specs.declared.Sensor.{Sensor}
 use Rattle.setup.specs.declared.Setup.{Setup}
-use Rattle.setup.specs.declared.Listing.{Listing}
-use Rattle.setup.specs.declared.Listing.the-variants.{Listed}
 use Rattle.setup.specs.declared.Ruling.{Ruling}
 use Rattle.setup.specs.declared.Ruling.the-variants as ruling
 use Rattle.setup.proofs.Layouts.{length-parts}
 use Rattle.setup.proofs.Refusals.{listed-length}
-use Rattle.setup.proofs.Rows.{listed-parts}
 use Rattle.setup.proofs.Rules.{first-accepted, first-refused}
 use Rattle.setup.proofs.Sensors.{sensor-row}
 use Rattle.acceptance.proofs.Completed.{completed-by}
-use Rattle.made_datagram.specs.Making.{given, partsWith, datagramIn, madeDatagram, outsideIn, outside, ownRules, makingRules, madeBy, makingRuling, madeAnswer, madeBuffer}
+use Rattle.made_datagram.specs.Making.{given, partsWith, datagramIn, outsideIn, ownRules, makingRules, madeBy, makingRuling, madeAnswer, madeBuffer}
 use Rattle.making.specs.Writing.{endingBytes, lastRules, answerBy, bufferOf}
 use Rattle.made_datagram.specs.declared.Values.{Values}
 use Rattle.made_datagram.specs.declared.Made.{Made}
 use Rattle.made_datagram.specs.declared.Made.the-variants.{Datagram, Refused}
+use Rattle.made_datagram.proofs.ListedRows.{row-outside, row-datagram}
 use Rattle.made_datagram.proofs.PartValues.{parts-length}
 use Rattle.making.proofs.ValueWriting.{ending-length}
 
@@ -119,15 +117,6 @@ module _ (b : List ℕ) (i : ℕ) (r : Row) (t : Bool) (readings : List (List �
         (ap Datagram (p .place ∙ zero-add (length (datagramIn l (given i readings v))) ∙ long), p .bytes ∙ put-front b (datagramIn l (given i readings v)) (omega arith))
 
 -- ---- a setup
-
-module _ (u : Setup) {r : Row} (listed : rowAt (u .identifier) ≡ Listed r) (readings : List (List ℤ)) (v : Values) where
-  pub row-outside : outside u readings v ≡ outsideIn (partsOf r) (given (u .identifier) readings v)
-  unfolding outside
-  row-outside = ap (λ (ps : List Part). outsideIn ps (given (u .identifier) readings v)) (listed-parts (u .identifier) listed)
-
-  pub row-datagram : madeDatagram u readings v ≡ datagramIn (layoutOf r (terminated u)) (given (u .identifier) readings v)
-  unfolding madeDatagram
-  row-datagram = ap (λ (k : Listing). datagramIn (layoutOf (rowOf k) (terminated u)) (given (u .identifier) readings v)) listed
 
 module _ (b : List ℕ) (u : Setup) (readings : List (List ℤ)) (v : Values) where
   pub setup-refused : {n : ℕ} → rulingOn u ≡ ruling.Refused n → (Refused n ≡ madeAnswer b u readings v) × (b ≡ madeBuffer b u readings v)

@@ -10,13 +10,13 @@ use mir.Syntax.{w32}
 use mir.Val.{SFits, ofZ, toZ}
 use mir.ValLaws.{toZ-ofZ}
 use Rattle.integers.specs.Buffers.{Put}
-use Rattle.integers.specs.Bytes.{valueBytes}
+use Rattle.integers.specs.Bytes.{valueBytes, joined}
 use Rattle.integers.proofs.Buffers.{put-none, put-length}
 use Rattle.integers.proofs.Values.{valueBytes-length}
 use Rattle.setup.specs.Layout.{Part, gyro, accelerometer, inclinometer, gyroTemperatures, accelerometerTemperatures}
 use Rattle.setup.specs.Layout.{inclinometerTemperatures, aux, counter, latency, widths, only, groupParts, temperatureParts, partsOf}
 use Rattle.setup.specs.declared.Row.{Row}
-use Rattle.made_datagram.specs.Making.{axesAndStatus, given, fieldsFor, joined, inTurn, partsWith}
+use Rattle.made_datagram.specs.Making.{axesAndStatus, given, fieldsFor, inTurn, partsWith}
 use Rattle.making.specs.Writing.{axesBytes, auxBytes, groupsBytes, temperaturesBytes}
 use Rattle.made_datagram.specs.declared.Values.{Values}
 

@@ -5,11 +5,11 @@ use mathlib.Core.List.{List, [], _∷_, _++_}
 use lib.Dec.{ltb}
 use lib.IntN.{ℤ, pos}
 use lib.ListN.{length, getD}
-use Rattle.integers.specs.Bytes.{signed, unsigned}
+use Rattle.integers.specs.Bytes.{signed, unsigned, joined}
 use Rattle.setup.specs.Layout.{Layout, lengthIn}
 use Rattle.setup.specs.Setup.{Rule, rule, firstOf, bufferBy}
 use Rattle.setup.specs.declared.Row.{Row}
-use Rattle.made_datagram.specs.Making.{axesAndStatus, given, fieldsFor, joined, datagramIn, anyOutside, anyNotZero, outsideIn, madeBy}
+use Rattle.made_datagram.specs.Making.{axesAndStatus, given, fieldsFor, datagramIn, anyOutside, anyNotZero, outsideIn, madeBy}
 use Rattle.made_datagram.specs.declared.Values.{Values}
 use Rattle.made_datagram.specs.declared.Made.{Made}
 

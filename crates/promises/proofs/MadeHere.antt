@@ -7,21 +7,22 @@ use mathlib.Core.Option.{none}
 use mathlib.Core.Path.{_≡_, refl, sym, ap, ap₂, subst, _∙_}
 use lib.ListN.{length, take, drop, length-append}
 use lib.Seq.{take-all, take-length, length-take-le}
+use Rattle.integers.specs.Bytes.{joined}
 use Rattle.integers.proofs.Booleans.{and-true}
 use Rattle.integers.proofs.Bytes.{all-areBytes}
-use Rattle.setup.specs.Layout.{partsOf}
+use Rattle.setup.specs.Layout.{partsAt}
 use Rattle.setup.specs.Setup.{rulingOn, lengthOf}
 use Rattle.setup.specs.declared.Ruling.the-variants as ruling
 use Rattle.setup.specs.declared.Setup.{Setup}
-use Rattle.setup.proofs.Refusals.{accepted, accepted-length}
+use Rattle.setup.proofs.Refusals.{accepted-length}
 use Rattle.wire.specs.Fields.{Contents, fieldsOf}
 use Rattle.acceptance.specs.Acceptable.{acceptable}
 use Rattle.made_datagram.specs.Making.{outside, fieldValues, valuesRead, madeNumber, madeBytes, madeAnswer, madeBuffer}
 use Rattle.made_datagram.specs.RoundTrip.{Shaped, RoundTrip}
-use Rattle.made_datagram.proofs.RoundTrips.{fields-are, contents-shaped, round-trip}
+use Rattle.made_datagram.proofs.RoundTrips.{contents-shaped, round-trip}
 use Rattle.made_datagram.proofs.MadeLaws.{made-whole, made-enough}
 use Rattle.scan.specs.Calls as calls
-use Rattle.scan.specs.Stream.{joined, Begins, Among, end, then}
+use Rattle.scan.specs.Stream.{Begins, Among, end, then}
 use Rattle.search.specs.Search.{isDatagram, limitsOf}
 use Rattle.search.proofs.Datagrams.{datagram-parts, datagram-length, lawful}
 use Rattle.session.specs.declared.Session.{Session}
@@ -46,9 +47,8 @@ module _ (u : Setup) (ok : rulingOn u ≡ ruling.Accepted) where
   made-long g = trip .written (g .readings) (g .values) (g .inside) .2
 
   again-shaped : (d : List ℕ) → Shaped (fieldsOf (u .identifier) d .readings) (valuesRead (fieldsOf (u .identifier) d))
-  again-shaped d =
-      let k = accepted u ok in
-      rw (fields-are u (k .row) (k .listed) (k .termination) d) (contents-shaped (partsOf (k .row)) d)
+  unfolding fieldsOf
+  again-shaped d = contents-shaped (partsAt (u .identifier)) d
 
   again-inside : (d : List ℕ) → isDatagram u d ≡ true → outside u (fieldsOf (u .identifier) d .readings) (valuesRead (fieldsOf (u .identifier) d)) ≡ false
   again-inside d good = let p = datagram-parts u d good in trip .passes d (p .0) (p .1)

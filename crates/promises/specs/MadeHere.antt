@@ -7,6 +7,7 @@ use mathlib.Core.Option.{none}
 use mathlib.Core.Path.{_≡_}
 use lib.IntN.{ℤ}
 use lib.ListN.{length, drop}
+use Rattle.integers.specs.Bytes.{joined}
 use Rattle.setup.specs.Setup.{lengthOf}
 use Rattle.setup.specs.declared.Setup.{Setup}
 use Rattle.wire.specs.Fields.{fieldsOf}
@@ -14,7 +15,7 @@ use Rattle.made_datagram.specs.Making.{madeDatagram, outside, fieldValues, valu
 use Rattle.made_datagram.specs.RoundTrip.{Shaped}
 use Rattle.made_datagram.specs.declared.Values.{Values}
 use Rattle.scan.specs.Calls.{datagram}
-use Rattle.scan.specs.Stream.{joined, Among}
+use Rattle.scan.specs.Stream.{Among}
 use Rattle.search.specs.Search.{isDatagram, limitsOf}
 use Rattle.session.specs.declared.Session.{Session}
 use Rattle.admission.specs.SoundSession.{PassesTen}

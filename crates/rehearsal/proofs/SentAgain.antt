@@ -1,5 +1,5 @@
 -- A text line that was printed is a rehearsal line, and says the numbers that it was printed of.
-use Prim.Native.Nat.{ℕ, zero, suc, _+_, _^_, _≤_, _<_}
+use Prim.Native.Nat.{ℕ, _+_, _^_, _≤_, _<_}
 use native.Mathlib.Omega.{arith}
 use mathlib.Core.Bool.{Bool, true, false, _&&_, _||_, cond}
 use mathlib.Core.List.{List, [], _∷_, _++_}
@@ -10,6 +10,7 @@ use lib.ListN.{length, length-append, getD}
 use borrow.Author.Tests.{le-ltb}
 use Rattle.integers.proofs.Parts.{posPart, negPart}
 use Rattle.integers.proofs.Ranges.{inReading-true}
+use Rattle.setup.proofs.Refusals.{each}
 use Rattle.setup_line.specs.SetupLine.{fieldsOf}
 use Rattle.gaps.specs.declared.Gap.{Gap}
 use Rattle.gaps.specs.declared.Gap.the-variants.{Missed, OffStep}
@@ -75,13 +76,6 @@ missed-written OffStep = by (fieldWritten (0x3F ∷ []))
 missed-fits : (gap : Gap) → ((count : Datagrams) → gap ≡ Missed count → count .0 < 2 ^ 64) → MissedFits gap
 missed-fits (Missed count) h = h count refl
 missed-fits OffStep h = tt
-
--- what holds of 0, 1 and 2
-three : (P : ℕ → Type 0) → P 0 → P 1 → P 2 → (k : ℕ) → k < 3 → P k
-three P x y z zero h = x
-three P x y z (suc zero) h = y
-three P x y z (suc (suc zero)) h = z
-three P x y z (suc (suc (suc k))) h = absurd (omega arith)
 
 -- ---- the line
 
@@ -154,22 +148,22 @@ module _ (shown : Shown) (ordinal counter latency : ℕ) (gap : Gap) (readings :
           same-latency = says 2 true (pos latency) refl (omega (arith, P .latency-fits)) (omega arith);
           same-reading =
               λ g a h l.
-              three
+              each
               (λ (g : ℕ).
               (a : ℕ) → a < 3
               → getD (getD (readingsIn line) g []) a (pos 0)
               ≡ ifShown shown g (getD (getD readings g []) a (pos 0)))
-              (three _ (reading-says 4 0 0 (omega arith) (omega arith) refl) (reading-says 5 0 1 (omega arith) (omega arith) refl) (reading-says 6 0 2 (omega arith) (omega arith) refl))
-              (three _ (reading-says 11 1 0 (omega arith) (omega arith) refl) (reading-says 12 1 1 (omega arith) (omega arith) refl) (reading-says 13 1 2 (omega arith) (omega arith) refl))
-              (three _ (reading-says 18 2 0 (omega arith) (omega arith) refl) (reading-says 19 2 1 (omega arith) (omega arith) refl) (reading-says 20 2 2 (omega arith) (omega arith) refl))
+              (each _ (reading-says 4 0 0 (omega arith) (omega arith) refl) (reading-says 5 0 1 (omega arith) (omega arith) refl) (reading-says 6 0 2 (omega arith) (omega arith) refl))
+              (each _ (reading-says 11 1 0 (omega arith) (omega arith) refl) (reading-says 12 1 1 (omega arith) (omega arith) refl) (reading-says 13 1 2 (omega arith) (omega arith) refl))
+              (each _ (reading-says 18 2 0 (omega arith) (omega arith) refl) (reading-says 19 2 1 (omega arith) (omega arith) refl) (reading-says 20 2 2 (omega arith) (omega arith) refl))
               g h a l;
-          same-status = three _ (status-says 7 0 refl) (status-says 14 1 refl) (status-says 21 2 refl);
+          same-status = each _ (status-says 7 0 refl) (status-says 14 1 refl) (status-says 21 2 refl);
           no-temperature =
               λ g a h l.
-              three (λ (g : ℕ). (a : ℕ) → a < 3 → getD (temperaturesOf (valuesIn line) g) a (pos 0) ≡ pos 0)
-              (three _ (absent 25 refl) (absent 26 refl) (absent 27 refl)) (three _ (absent 29 refl) (absent 30 refl) (absent 31 refl))
-              (three _ (absent 33 refl) (absent 34 refl) (absent 35 refl)) g h a l;
-          no-temperature-status = three _ (absent 28 refl) (absent 32 refl) (absent 36 refl);
+              each (λ (g : ℕ). (a : ℕ) → a < 3 → getD (temperaturesOf (valuesIn line) g) a (pos 0) ≡ pos 0)
+              (each _ (absent 25 refl) (absent 26 refl) (absent 27 refl)) (each _ (absent 29 refl) (absent 30 refl) (absent 31 refl))
+              (each _ (absent 33 refl) (absent 34 refl) (absent 35 refl)) g h a l;
+          no-temperature-status = each _ (absent 28 refl) (absent 32 refl) (absent 36 refl);
           no-aux = absent 37 refl;
           no-aux-status = absent 38 refl;
         }

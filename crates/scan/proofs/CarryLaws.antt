@@ -8,9 +8,10 @@ use native.Mathlib.Nat.{add-zero, mul-add, mul-one, mul-zero}
 use native.Mathlib.Numerals.{add-one}
 use native.Mathlib.Omega.{arith}
 use lib.ListN.{length, take, getD, length-append}
+use Rattle.integers.specs.Bytes.{joined}
 use Rattle.scan.specs.Rules.{Rules, verdict}
 use Rattle.scan.specs.Calls.{State, Answer, datagram, waiting, refused, refusing, feed}
-use Rattle.scan.specs.Stream.{joined, Among, end, other, then}
+use Rattle.scan.specs.Stream.{Among, end, other, then}
 use Rattle.scan.specs.Carry.{Consumer, steps, tells, told, carriedAfter, reply, Session, carrying}
 use Rattle.scan.proofs.CallsLaws.{call-fed, feed-unsound, View, over, past, made, view, refused-same}
 

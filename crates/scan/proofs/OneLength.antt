@@ -12,13 +12,14 @@ use borrow.Author.Tests.{ltb-true, eq-eqb, ne-eqb, lt-ltb}
 use lib.Dec.{eqb, ltb}
 use lib.ListN.{length, take, drop, getD, length-append, length-drop}
 use lib.Seq.{length-take-le, take-length}
+use Rattle.integers.specs.Bytes.{joined}
 use Rattle.integers.proofs.Booleans.{and-split, and-true}
 use Rattle.scan.specs.Scan.{Verdict, waits, hands, scan, First, ends, finds, first, Undecided, Stable}
 use Rattle.scan.specs.Front.{Shaped}
 use Rattle.scan.specs.Rules.{Limits, Rules, verdict, Lawful}
 use Rattle.scan.specs.OneLength.{oneCandidate, heldRule, oneLength, Prompt}
 use Rattle.scan.specs.Calls.{State, datagram, waiting, Fed, answered, after, taking, takes, call, feed}
-use Rattle.scan.specs.Stream.{joined, Among, end, other, then, Bare}
+use Rattle.scan.specs.Stream.{Among, end, other, then, Bare}
 use Rattle.scan.proofs.ScanLaws.{first-undecided, Parted, parted-at, scan-undecided}
 use Rattle.scan.proofs.FrontLaws.{front-short, waits-short, hands-acceptable, acceptable-hands, front-stable}
 use Rattle.scan.proofs.AmongLaws.{stable}

@@ -9,12 +9,13 @@ use native.Mathlib.Nat.{zero-add, add-zero}
 use native.Mathlib.Omega.{arith}
 use lib.ListN.{length, take, drop, length-append, length-drop, take-append-drop}
 use lib.Seq.{length-take-le, take-length}
+use Rattle.integers.specs.Bytes.{joined}
 use Rattle.integers.proofs.Booleans.{and-true}
 use Rattle.scan.specs.Scan.{Scanned, scan, holding, passing, handing, First, ends, finds, first, Undecided}
 use Rattle.scan.specs.Rules.{Rules, verdict, Lawful}
 use Rattle.scan.specs.Calls.{State, Answer, datagram, waiting, refused, Fed, refusing, taking, takes, call, feed}
 use Rattle.scan.specs.Calls.{takenWhole, turnedDown, Report, taking-more, Run, none, refuse, wait, hand, skip}
-use Rattle.scan.specs.Stream.{joined, outcome, reports, stream, Bare}
+use Rattle.scan.specs.Stream.{outcome, reports, stream, Bare}
 use Rattle.scan.specs.Carry.{Consumer, tells, told, carriedAfter, Session, freshSession, soundSession, carrying, feedSession, SessionRun}
 use Rattle.scan.specs.Carry.{Invariant, plain, Delivered}
 use Rattle.scan.proofs.ScanLaws.{scan-waits, scan-ends, scan-finds, Parted, parted-at}

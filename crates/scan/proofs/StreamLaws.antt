@@ -8,9 +8,10 @@ use native.Mathlib.Decide.{decLe}
 use native.Mathlib.Omega.{arith}
 use borrow.Author.Tests.{le-leb, lt-leb}
 use lib.ListN.{length, drop, length-append, length-drop}
+use Rattle.integers.specs.Bytes.{joined}
 use Rattle.scan.specs.Rules.{Limits}
 use Rattle.scan.specs.Calls.{takenWhole, turnedDown, Report, taking-more}
-use Rattle.scan.specs.Stream.{outcome, takenBy, joined, reports, NoTen, stream}
+use Rattle.scan.specs.Stream.{outcome, takenBy, reports, NoTen, stream}
 
 module _ (L : Limits) (n k : ℕ) where
   pub outcome-over : L .piece < k → outcome L n k ≡ turnedDown (L .tooLong)

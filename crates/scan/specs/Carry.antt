@@ -5,10 +5,11 @@ use mathlib.Core.Path.{_≡_}
 use mathlib.Core.Bool.{Bool, true, _&&_}
 use mathlib.Core.List.{List, [], _∷_}
 use lib.ListN.{length}
+use Rattle.integers.specs.Bytes.{joined}
 use Rattle.scan.specs.Scan.{scan}
 use Rattle.scan.specs.Rules.{Rules, verdict}
 use Rattle.scan.specs.Calls.{State, fresh, sound, Answer, datagram, waiting, refused, Fed, feed, Report, Run}
-use Rattle.scan.specs.Stream.{reports, stream, joined, Among, Bare}
+use Rattle.scan.specs.Stream.{reports, stream, Among, Bare}
 
 -- X is what is carried, O what comes back with a datagram
 pub record Consumer (X O : Type 0) : Type 0 where

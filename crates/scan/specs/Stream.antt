@@ -10,11 +10,6 @@ use lib.ListN.{length, take, drop}
 use Rattle.scan.specs.Rules.{Limits}
 use Rattle.scan.specs.Calls.{Outcome, takenWhole, turnedDown, Report}
 
--- lists of bytes joined
-abbrev pub joined : List (List ℕ) → List ℕ
-joined [] = []
-joined (p ∷ ps) = p ++ joined ps
-
 -- What becomes of a piece of k bytes behind n earlier ones that were taken: turned down as too long, or else by 12, or taken whole
 unfoldable pub outcome : Limits → ℕ → ℕ → Outcome
 outcome L n k = cond (leb k (L .piece)) (cond (leb (n + k) (L .session)) takenWhole (turnedDown 12)) (turnedDown (L .tooLong))

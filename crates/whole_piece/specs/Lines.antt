@@ -3,6 +3,7 @@ use Prim.Native.Nat.{ℕ, suc, _+_, _*_, _/_}
 use mathlib.Core.List.{List, [], _∷_, _++_}
 use mathlib.Core.Option.{Option, none, some}
 use lib.ListN.{length, drop}
+use Rattle.integers.specs.Bytes.{joined}
 use Rattle.setup.specs.Setup.{Rule, firstOf}
 use Rattle.setup.specs.declared.Setup.{Setup}
 use Rattle.setup.specs.declared.Ruling as ruling
@@ -11,7 +12,6 @@ use Rattle.shown_line.specs.ShownLine.{shownText, roomRules, longestLine}
 use Rattle.text.specs.TextLine.{shownBy}
 use Rattle.shown_line.specs.declared.Shown.{Shown}
 use Rattle.scan.specs.Scan.{Scanned, scan}
-use Rattle.scan.specs.Stream.{joined}
 use Rattle.scan.specs.Carry.{told, carriedAfter}
 use Rattle.search.specs.Search.{verdictOf}
 use Rattle.admission.specs.Admission.{heldBytes, pieceRules}
