@@ -1,6 +1,6 @@
 #!/usr/bin/perl
 # Writes the cases that another program answers: the check by the Debian package libdigest-crc-perl, and datagrams, statuses, gaps and text
-# lines by a few lines of Perl written from 01. The text lines (`write`) stand in reference/src/line_cases.txt, the others in
+# lines by a few lines of Perl written from 01 and 02. The text lines (`write`) stand in reference/src/line_cases.txt, the others in
 # crates/cases/stdin.
 use strict;
 use warnings;
@@ -90,9 +90,10 @@ for my $identifier (sort { $a <=> $b } keys %carries) {
     }
 }
 
-# 01, Status, doubles, gaps
+# 01, Status, doubles, gaps; 02, 2.2: bit 3 or 4 with none of bits 0 to 2 names all three axes
 for my $status (0 .. 255) {
-    my @fit = map { ($status & 0xC0) || (($status & 0x18) && ($status & (1 << $_))) ? 0 : 1 } 0 .. 2;
+    my $named = $status & 7 || 7;
+    my @fit = map { ($status & 0xC0) || (($status & 0x18) && ($named & (1 << $_))) ? 0 : 1 } 0 .. 2;
     my $flagged = grep { $status & (1 << $_) } 0 .. 2;
     printf "fit %d %d%d%d %d\n", $status, @fit, $flagged;
 }

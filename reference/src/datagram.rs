@@ -197,10 +197,13 @@ pub fn reading_of(bytes: [u8; 3]) -> i32 {
 }
 
 /// An axis (0 X, 1 Y, 2 Z) is unfit if bit 7 or 6 is set, or if bit 3 or 4 is
-/// set together with the axis's bit; else fit.
+/// set and the axis is named; else fit. Bits 0 to 2 name their axes, and bit 3
+/// or 4 with all three clear names all three (01, Status; 02, 2.2).
 pub fn is_fit(status: u8, axis: usize) -> bool {
     let bit = |number: usize| status >> number & 1 == 1;
-    let unfit = bit(7) || bit(6) || ((bit(3) || bit(4)) && bit(axis));
+    let none_named = !bit(0) && !bit(1) && !bit(2);
+    let is_named = bit(axis) || none_named;
+    let unfit = bit(7) || bit(6) || ((bit(3) || bit(4)) && is_named);
     !unfit
 }
 

@@ -278,15 +278,20 @@ impl Axis {
     }
 }
 
-/// Bits 0 to 2 of the answer: whether X, Y, Z are unfit by this status.
+/// Bits 0 to 2 of the answer: whether X, Y, Z are unfit by this status (01,
+/// Status; 02, 2.2).
 #[inline]
-fn unfit_axes(status: u8) -> u8 {
+pub fn unfit_axes(status: u8) -> u8 {
     if status & 0b1100_0000 != 0 {
-        0b111
-    } else if status & 0b0001_1000 != 0 {
-        status & 0b111
-    } else {
-        0
+        return 0b111;
+    }
+    if status & 0b0001_1000 == 0 {
+        return 0;
+    }
+    match status & 0b111 {
+        // None named is all three.
+        0 => 0b111,
+        named => named,
     }
 }
 

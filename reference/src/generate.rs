@@ -404,9 +404,15 @@ impl Sensor {
         }
     }
 
+    /// 0, but for one in `status_share`. Half of those are an `error_status`; the
+    /// others, a seventh each, 0, any byte, one bit, and any axes beside bit 3,
+    /// bit 4, bit 5 and all three of these.
     fn next_status(&self, random: &mut Random) -> u8 {
         if !random.one_in(self.status_share) {
             return 0;
+        }
+        if random.one_in(2) {
+            return error_status(random);
         }
         let any = random.byte();
         let one_bit = 1 << random.below(8);
@@ -569,6 +575,19 @@ impl Sensor {
         bytes.extend_from_slice(&first[..start]);
         bytes.extend(second);
     }
+}
+
+/// A status with bit 3, bit 4 or both, a third each (01, Status; 02, 2.2). No
+/// axis is named in 2 of 5, one, two and all three in 1 of 5 each. Bit 5 is
+/// beside them in 1 of 3, and bit 7, bit 6 or both in 1 of 6.
+pub fn error_status(random: &mut Random) -> u8 {
+    let errors = random.pick(&[0x08, 0x10, 0x18]);
+    let one_axis = 1 << random.below(3);
+    let axes = random.pick(&[0, 0, one_axis, 0b111 ^ one_axis, 0b111]);
+    let conditions = random.pick(&[0x20, 0, 0]);
+    let all_unfit = random.pick(&[0x40, 0x80, 0xC0]);
+    let above = if random.one_in(6) { all_unfit } else { 0 };
+    above | conditions | errors | axes
 }
 
 fn any_reading(random: &mut Random) -> i32 {

@@ -1,6 +1,7 @@
 //! Listed calls: the cases of `cases.txt`, written by hand from 01, of
 //! `line_cases.txt`, written by tools/cases.pl, and of `make_cases.txt`, from 02,
-//! 2.1, with what each must answer; and whole pieces at their edges.
+//! 2.1, with what each must answer; whole pieces at their edges; and whole pieces
+//! in which every status shows in the totals.
 
 use crate::call::{
     feed_text, line_text, made_text, opened_text, read_text, rehearsal_text, setup_text, Call,
@@ -375,7 +376,7 @@ pub fn whole_pieces() -> Vec<Call> {
     add(&went_on, &gaps, room, 0xEE);
     let triggered = Setup { rate: 0, ..EXAMPLE };
     add(&fresh(triggered), &gaps, room, 0xEE);
-    let statuses = [0x40, 0x80, 0x08, 0x09, 0x12, 0x1C, 0x27, 0x00];
+    let statuses = [0x40, 0x80, 0x08, 0x00, 0x09, 0x12, 0x1C, 0x27, 0x00];
     let unfit: Vec<u8> = statuses
         .iter()
         .enumerate()
@@ -482,4 +483,84 @@ fn turned(counter: u8, reading: i32) -> Fields {
 
 fn turn(setup: &Setup, counter: u8, reading: i32) -> Vec<u8> {
     encode(setup, &turned(counter, reading))
+}
+
+// ------------------------------------------------------------------- statuses
+
+/// Every group carried and integrated, and nothing beside the groups.
+const THREE_GROUPS: Setup = Setup {
+    rate: 2000,
+    identifier: 0x93,
+    termination: 0,
+    units: [3; 3],
+    shifts: [21, 22, 23],
+};
+
+/// Whole pieces that show in the totals what is fit (01, Status; 02, 2.2): the
+/// stream of every status, in pieces as long as may be, then the short one.
+pub fn pieces_of_statuses() -> Vec<Call> {
+    let mut calls = pieces_of_stream(&THREE_GROUPS, &every_status());
+    calls.extend(pieces_of_stream(&EXAMPLE, &errors_between_fit_ones()));
+    calls
+}
+
+/// A stream from a fresh session on, each piece with the session that the one
+/// before it leaves.
+fn pieces_of_stream(setup: &Setup, bytes: &[u8]) -> Vec<Call> {
+    let mut calls = Vec::new();
+    let mut session = fresh(*setup);
+    for piece in bytes.chunks(PIECE_LIMIT) {
+        let given = Box::new(session);
+        let bytes = piece.to_vec();
+        calls.push(Call::WholePiece(given, bytes, ROOM_FOR_LINES, 0xEE));
+        (_, session) = lines_of(&session, piece).expect("feeding doesn't refuse it");
+    }
+    calls
+}
+
+/// A datagram in which all is fit, then 256 more: each group has every status
+/// once, the gyro from 0 on, the accelerometer from 85, the inclinometer from 170.
+fn every_status() -> Vec<u8> {
+    let all_fit = moved(0, [0; 3]);
+    let others = (0..=255_u8).map(|status| {
+        let statuses = [0, 85, 170].map(|first| status.wrapping_add(first));
+        moved(i32::from(status) + 1, statuses)
+    });
+    [all_fit]
+        .into_iter()
+        .chain(others)
+        .flat_map(|fields| encode(&THREE_GROUPS, &fields))
+        .collect()
+}
+
+/// The fields of a datagram whose readings moved from the one before by `place`
+/// times 1 to 9, up and down in turn: a total moves if its axis is fit, else not.
+fn moved(place: i32, statuses: [u8; 3]) -> Fields {
+    let distance = place * (place + 1) / 2;
+    let mut fields = Fields::ZEROS;
+    let readings = fields.readings.iter_mut().flatten();
+    for (reading, factor) in readings.zip([1, -2, 3, -4, 5, -6, 7, -8, 9]) {
+        *reading = factor * distance;
+    }
+    fields.statuses = statuses;
+    fields.counter = place as u8;
+    fields
+}
+
+/// Bit 3, bit 4, both, and bit 3 beside bit 5, with no axis named; bit 3 with X
+/// named; bit 3 beside bit 6. All is fit before and behind each of them. X goes
+/// up by 1 from one datagram to the next, Y by 10, Z by 100.
+fn errors_between_fit_ones() -> Vec<u8> {
+    let errors = [0x08, 0x10, 0x18, 0x28, 0x09, 0x48];
+    let statuses = errors.iter().flat_map(|&error| [0x00, error]).chain([0x00]);
+    statuses
+        .enumerate()
+        .flat_map(|(place, status)| {
+            let mut fields = Fields::ZEROS;
+            fields.readings[0] = [1, 10, 100].map(|step| step * place as i32);
+            fields.statuses[0] = status;
+            fields.counter = 2 * place as u8;
+            encode(&EXAMPLE, &fields)
+        })
+        .collect()
 }

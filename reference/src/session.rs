@@ -2,7 +2,7 @@
 
 use crate::datagram::{
     decode, double_of, flagged_channels, folded_difference, gap_between, group_values,
-    is_acceptable, is_fit, Datagram, Fields, Gap, Total,
+    is_acceptable, is_fit, Datagram, Gap, Total,
 };
 use crate::layout::{datagram_length, layout_of};
 use crate::setup::{judge_setup, Setup, INTEGRATED};
@@ -250,9 +250,12 @@ fn hand_out(session: &mut Session, bytes: &[u8]) -> Datagram {
         datagram.flagged_channels[group] = flagged_channels(fields.statuses[group]);
         if keeps_totals(&setup, group) {
             for axis in 0..3 {
-                add_to_total(&mut session.axes[group][axis], &fields, group, axis);
-                datagram.totals[group][axis] =
-                    total_of(&session.axes[group][axis], setup.shifts[group]);
+                let kept = &mut session.axes[group][axis];
+                // Unfit datagrams alter nothing.
+                if is_fit(fields.statuses[group], axis) {
+                    add_fit_reading(kept, fields.readings[group][axis]);
+                }
+                datagram.totals[group][axis] = total_of(kept, setup.shifts[group]);
             }
         }
     }
@@ -260,12 +263,8 @@ fn hand_out(session: &mut Session, bytes: &[u8]) -> Datagram {
 }
 
 /// 01, "Totals": the first fit datagram makes the total 0, each later fit one
-/// adds the folded difference, unfit ones alter nothing.
-fn add_to_total(kept: &mut Axis, fields: &Fields, group: usize, axis: usize) {
-    if !is_fit(fields.statuses[group], axis) {
-        return;
-    }
-    let reading = fields.readings[group][axis];
+/// adds the folded difference.
+pub fn add_fit_reading(kept: &mut Axis, reading: i32) {
     if kept.begun {
         kept.total += folded_difference(reading, kept.last_fit_reading);
     } else {

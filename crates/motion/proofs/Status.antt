@@ -1,33 +1,91 @@
--- Laws of fitness: what each bit of a status byte does to an axis (01, Status). Assumes nothing.
-use Prim.Native.Nat.{ℕ}
-use mathlib.Core.Bool.{Bool, true, false, not, _&&_, _||_}
+-- Laws of fitness: what each bit of a status byte does to an axis (01, Status; 02, 2.2). Assumes nothing.
+use Prim.Native.Nat.{ℕ, zero, suc, _<_, _+_}
+use mathlib.Core.Bool.{Bool, true, false, not, _&&_, _||_, cond}
 use mathlib.Core.Path.{_≡_, refl, ap}
 use native.Mathlib.Omega.{arith}
-use Rattle.motion.specs.Status.{isSet, unfit, fit}
+use lib.Dec.{eqb}
+use borrow.Author.Tests.{eq-eqb, ne-eqb}
+use Rattle.motion.specs.Status.{bit, isSet, noneFlagged, named, unfit, fit, flagged}
+
+-- ---- which channels are flagged
+
+-- a bit is 1 or 0
+one-or-zero : (n : ℕ) → n < 2 → n ≡ cond (eqb n 1) 1 0
+one-or-zero zero h = refl
+one-or-zero (suc zero) h = refl
+one-or-zero (suc (suc n)) h = absurd (omega arith)
+
+-- the count of flagged channels tells whether bits 0 to 2 are all clear
+pub none-flagged : (status : ℕ) → eqb (flagged status) 0 ≡ noneFlagged status
+unfolding flagged
+none-flagged status =
+    by (bit status 0) (bit status 1) (bit status 2) (isSet status 0) (isSet status 1) (isSet status 2) (one-or-zero _ (omega arith))
+    (one-or-zero _ (omega arith)) (one-or-zero _ (omega arith))
+  where
+    by : (x y z : ℕ) (p q r : Bool) → x ≡ cond p 1 0 → y ≡ cond q 1 0 → z ≡ cond r 1 0 → eqb (x + y + z) 0 ≡ not (p || q || r)
+    by x y z true q r e f g = ne-eqb (x + y + z) 0 (λ h. omega arith)
+    by x y z false true r e f g = ne-eqb (x + y + z) 0 (λ h. omega arith)
+    by x y z false false true e f g = ne-eqb (x + y + z) 0 (λ h. omega arith)
+    by x y z false false false e f g = eq-eqb (x + y + z) 0 (omega arith)
+
+module _ (status : ℕ) where
+  -- none is flagged where bits 0 to 2 are clear, and not where one of them is set
+  none-set : ((other : ℕ) → other < 3 → isSet status other ≡ false) → noneFlagged status ≡ true
+  none-set clear = rw (clear 0 (omega arith), clear 1 (omega arith), clear 2 (omega arith))
+
+  some-set : (other : ℕ) → other < 3 → isSet status other ≡ true → noneFlagged status ≡ false
+  some-set zero h e = rw e
+  some-set (suc zero) h e = rw e (by (isSet status 0))
+    where
+      by : (x : Bool) → not (x || true || isSet status 2) ≡ false
+      by true = refl
+      by false = refl
+  some-set (suc (suc zero)) h e = rw e (by (isSet status 0) (isSet status 1))
+    where
+      by : (x y : Bool) → not (x || y || true) ≡ false
+      by true y = refl
+      by false true = refl
+      by false false = refl
+  some-set (suc (suc (suc other))) h e = absurd (omega arith)
+
+-- ---- fit and unfit
 
 module _ (status axis : ℕ) where
   -- integrity or start-up leaves no axis fit
   pub unfit-all : (isSet status 7 || isSet status 6) ≡ true → fit status axis ≡ false
   unfolding unfit
-  unfit-all e = ap (λ (b : Bool). not (b || ((isSet status 3 || isSet status 4) && isSet status axis))) e
+  unfit-all e = rw e
 
-  -- measurement error or overload leaves an axis unfit that is named
+  -- measurement error or overload leaves an axis unfit that it names
+  names : (isSet status 3 || isSet status 4) ≡ true → named status axis ≡ true → fit status axis ≡ false
+  unfolding unfit
+  names e n = by (isSet status 7 || isSet status 6) (isSet status 3 || isSet status 4) (named status axis) e n
+    where
+      by : (all some own : Bool) → some ≡ true → own ≡ true → not (all || (some && own)) ≡ false
+      by true some own p q = refl
+      by false some own p q = rw (p, q)
+
+  -- one whose bit is set
   pub unfit-named : (isSet status 3 || isSet status 4) ≡ true → isSet status axis ≡ true → fit status axis ≡ false
-  unfolding unfit
-  unfit-named e n = by (isSet status 7 || isSet status 6) (isSet status 3 || isSet status 4) (isSet status axis) e n
-    where
-      by : (all named own : Bool) → named ≡ true → own ≡ true → not (all || (named && own)) ≡ false
-      by true true true p q = refl
-      by false true true p q = refl
-      by all false own p q = let z : _≡_ {A = ℕ} 0 1 = cc in absurd (omega arith)
-      by all true false p q = let z : _≡_ {A = ℕ} 0 1 = cc in absurd (omega arith)
+  unfit-named e n = names e (ap (λ (b : Bool). b || noneFlagged status) n)
 
-  -- an axis that isn't named is fit without integrity and start-up
-  pub fit-unnamed : (isSet status 7 || isSet status 6) ≡ false → isSet status axis ≡ false → fit status axis ≡ true
-  unfolding unfit
-  fit-unnamed e n = rw (e, n) (by (isSet status 3 || isSet status 4))
+  -- every one where bits 0 to 2 are clear
+  pub unfit-none-flagged :
+      (isSet status 3 || isSet status 4) ≡ true → ((other : ℕ) → other < 3 → isSet status other ≡ false) → fit status axis ≡ false
+  unfit-none-flagged e clear = names e (rw (none-set status clear) (by (isSet status axis)))
     where
-      by : (named : Bool) → not (false || (named && false)) ≡ true
+      by : (own : Bool) → (own || true) ≡ true
+      by true = refl
+      by false = refl
+
+  -- an axis whose bit is clear where another one's is set, is fit without integrity and start-up
+  pub fit-unnamed :
+      (isSet status 7 || isSet status 6) ≡ false → isSet status axis ≡ false → (other : ℕ) → other < 3 → isSet status other ≡ true
+      → fit status axis ≡ true
+  unfolding unfit
+  fit-unnamed e n other h o = rw (e, n, some-set status other h o) (by (isSet status 3 || isSet status 4))
+    where
+      by : (some : Bool) → not (false || (some && (false || false))) ≡ true
       by true = refl
       by false = refl
 

@@ -1,4 +1,4 @@
--- 01, Status, doubles, gaps: what the status byte of a group says (001, Table 5-23).
+-- 01, Status, doubles, gaps; 02, 2.2: what the status byte of a group says (001, Table 5-23).
 use Prim.Native.Nat.{ℕ, _+_, _/_, _%_, _^_}
 use mathlib.Core.Bool.{Bool, not, _&&_, _||_}
 use mathlib.Core.List.{List, [], _∷_}
@@ -11,9 +11,17 @@ bit status k = status / 2 ^ k % 2
 abbrev pub isSet : ℕ → ℕ → Bool
 isSet status k = eqb (bit status k) 1
 
--- an axis (X 0, Y 1, Z 2) is unfit if bit 7 or 6 is set, or if bit 3 or 4 is set together with the axis's bit
+-- bits 0 to 2 are all clear
+abbrev pub noneFlagged : ℕ → Bool
+noneFlagged status = not (isSet status 0 || isSet status 1 || isSet status 2)
+
+-- which axes (X 0, Y 1, Z 2) bit 3 or 4, if it is set, names: those whose bit is set, and all three where bits 0 to 2 are all clear (02, 2.2)
+abbrev pub named : ℕ → ℕ → Bool
+named status axis = isSet status axis || noneFlagged status
+
+-- an axis is unfit if bit 7 or 6 is set, or if bit 3 or 4 is set and names it
 unfoldable pub unfit : ℕ → ℕ → Bool
-unfit status axis = (isSet status 7 || isSet status 6) || ((isSet status 3 || isSet status 4) && isSet status axis)
+unfit status axis = (isSet status 7 || isSet status 6) || ((isSet status 3 || isSet status 4) && named status axis)
 
 -- else fit
 abbrev pub fit : ℕ → ℕ → Bool

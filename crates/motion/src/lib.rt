@@ -1,4 +1,4 @@
-// What the fields of a datagram mean: status and fitness, totals (01, Status, doubles, gaps; Totals).
+// What the fields of a datagram mean: status and fitness, totals (01, Status, doubles, gaps; Totals; 02, 2.2).
 ghost use mathlib.Core.Path.{_≡_};
 ghost use Prim.Native.Nat.{_≤_, _^_};
 ghost use lib.Dec.{eqb};
@@ -52,19 +52,20 @@ pub struct Totals {
     pub inclinometer: GroupTotals,
 }
 
-// Which of X, Y and Z a group's status byte leaves fit (01, Status, doubles, gaps).
+// Which of X, Y and Z a group's status byte leaves fit (01, Status, doubles, gaps; 02, 2.2).
 pub fn fit_axes(status: u8) -> [bool; 3]
     ensures { λ r. ⌜ r ≡ fitAxes status ⌝ }
 {
-    let all = (status / 128 % 2 == 1) | (status / 64 % 2 == 1);
-    let named = (status / 8 % 2 == 1) | (status / 16 % 2 == 1);
-    let x = status / 1 % 2 == 1;
-    let y = status / 2 % 2 == 1;
-    let z = status / 4 % 2 == 1;
+    let integrity_or_start_up = (status / 128 % 2 == 1) | (status / 64 % 2 == 1);
+    let error_or_overload = (status / 8 % 2 == 1) | (status / 16 % 2 == 1);
+    let none_flagged = flagged_channels(status) == 0;
+    let x_named = (status / 1 % 2 == 1) | none_flagged;
+    let y_named = (status / 2 % 2 == 1) | none_flagged;
+    let z_named = (status / 4 % 2 == 1) | none_flagged;
     [
-        !(all | (named & x)),
-        !(all | (named & y)),
-        !(all | (named & z)),
+        !(integrity_or_start_up | (error_or_overload & x_named)),
+        !(integrity_or_start_up | (error_or_overload & y_named)),
+        !(integrity_or_start_up | (error_or_overload & z_named)),
     ]
 }
 

@@ -43,7 +43,7 @@ use Rattle.made_datagram.proofs.WorkedExample.{worked}
 use Rattle.gaps.specs.Gaps.{elapsed}
 use Rattle.gaps.proofs.Gaps.{elapsed-back, elapsed-range, missed-steps, off-step, first-none, trigger-none}
 use Rattle.motion.proofs.AcceptedSetup.{integrated-kept, other-not-kept}
-use Rattle.motion.proofs.Status.{unfit-all, unfit-named, fit-unnamed, fit-clear}
+use Rattle.motion.proofs.Status.{unfit-all, unfit-named, unfit-none-flagged, fit-unnamed, fit-clear}
 use Rattle.doubles.proofs.Starred.{starred}
 use Rattle.shown_line.proofs.Thirteen.{inside-passes, passes-inside}
 use Rattle.search.specs.Search.{isDatagram}
@@ -203,6 +203,7 @@ paper-rules =
       some-datagram = some-datagram;
       unfit-all = unfit-all;
       unfit-named = unfit-named;
+      unfit-none-flagged = unfit-none-flagged;
       fit-unnamed = fit-unnamed;
       fit-clear = fit-clear;
       elapsed-samples = λ previous counter p c. let r = elapsed-range previous counter in (r .0, r .1, elapsed-back previous counter p c);

@@ -1,5 +1,5 @@
 -- What the rules say that the other promises are stated by, as facts: so that a rule that is wrong in its definition and in the code alike is shut out
--- here (01, The setup line; Layout by identifier; The scan; Status, doubles, gaps; Totals; The text line; Bench cases; 02, 2.1).
+-- here (01, The setup line; Layout by identifier; The scan; Status, doubles, gaps; Totals; The text line; Bench cases; 02, 2.1, 2.2).
 use Prim.Native.Nat.{ℕ, suc, _+_, _*_, _/_, _%_, _^_, _≤_, _<_}
 use mathlib.Core.Bool.{Bool, true, false, _||_, cond}
 use mathlib.Core.List.{List, [], _∷_, _++_}
@@ -66,10 +66,15 @@ pub record PaperRules : Type 0 where
   pub made-up : (u : Setup) → setupNumber u ≡ none → (d : List ℕ) → isDatagram u d ≡ true → MadeUp u d
   pub acceptable : (u : Setup) → setupNumber u ≡ none → (d : List ℕ) → MadeUp u d → isDatagram u d ≡ true
   pub some-datagram : (u : Setup) → setupNumber u ≡ none → (d : List ℕ) × (isDatagram u d ≡ true)
-  -- an axis is unfit if bit 7 or 6 is set, or if bit 3 or 4 is set together with the axis's bit; else fit
+  -- an axis is unfit if bit 7 or 6 is set, or if bit 3 or 4 is set together with the axis's bit, or with bits 0 to 2 all clear; else fit
   pub unfit-all : (status axis : ℕ) → (isSet status 7 || isSet status 6) ≡ true → fit status axis ≡ false
   pub unfit-named : (status axis : ℕ) → (isSet status 3 || isSet status 4) ≡ true → isSet status axis ≡ true → fit status axis ≡ false
-  pub fit-unnamed : (status axis : ℕ) → (isSet status 7 || isSet status 6) ≡ false → isSet status axis ≡ false → fit status axis ≡ true
+  pub unfit-none-flagged :
+      (status axis : ℕ) → (isSet status 3 || isSet status 4) ≡ true → ((other : ℕ) → other < 3 → isSet status other ≡ false)
+      → fit status axis ≡ false
+  pub fit-unnamed :
+      (status axis : ℕ) → (isSet status 7 || isSet status 6) ≡ false → isSet status axis ≡ false
+      → (other : ℕ) → other < 3 → isSet status other ≡ true → fit status axis ≡ true
   pub fit-clear : (status axis : ℕ) → (isSet status 7 || isSet status 6) ≡ false → (isSet status 3 || isSet status 4) ≡ false → fit status axis ≡ true
   -- d, from 1 to 256, is the new counter minus the previous modulo 256
   pub elapsed-samples :

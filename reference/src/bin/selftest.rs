@@ -23,7 +23,9 @@ use stim_reference::make_program::made_for;
 use stim_reference::program::{output_for, split_input};
 use stim_reference::random::Random;
 use stim_reference::rehearsal::{read_number, read_rehearsal_line, Fault, LONGEST_REHEARSAL_LINE};
-use stim_reference::session::{feed, judge_session, open_session, Axis, Outcome, Session};
+use stim_reference::session::{
+    add_fit_reading, feed, judge_session, keeps_totals, open_session, Axis, Outcome, Session,
+};
 use stim_reference::setup::{judge_setup, read_setup_line, setup_line, Setup};
 use stim_reference::whole_piece::{lines_of, receive_lines, ROOM_FOR_LINES};
 use stim_reference::{Refusal, PIECE_LIMIT, STREAM_LIMIT};
@@ -52,7 +54,10 @@ fn main() {
     paper_example();
     feeding_refusals();
     line_refusals();
+    fitness();
     listed_cases();
+    listed_errors();
+    every_listed_status();
     whole_pieces();
     made_example();
     made_round_trips();
@@ -61,6 +66,7 @@ fn main() {
     making_program();
     wrong_makers();
     wrong_line_readers();
+    wrong_statuses();
     fast_decimals();
     sessions_along_streams();
     plain_against_fast(seed, count);
@@ -182,7 +188,7 @@ fn bench_cases() {
         [true, false, true]
     );
     assert_eq!([0, 1, 2].map(|axis| is_fit(0x20, axis)), [true; 3]);
-    assert_eq!([0, 1, 2].map(|axis| is_fit(0x08, axis)), [true; 3]);
+    assert_eq!([0, 1, 2].map(|axis| is_fit(0x08, axis)), [false; 3]);
     assert_eq!(
         [0, 1, 2].map(|axis| is_fit(0x14, axis)),
         [true, true, false]
@@ -190,6 +196,41 @@ fn bench_cases() {
     assert_eq!([0, 1, 2].map(|axis| is_fit(0x40, axis)), [false; 3]);
     assert_eq!([0, 1, 2].map(|axis| is_fit(0x80, axis)), [false; 3]);
     assert_eq!([0x00, 0x07, 0xF8, 0x0D].map(flagged_channels), [0, 3, 0, 2]);
+}
+
+/// 01, Status, and 02, 2.2: whether X, Y and Z are fit, and the count of flagged
+/// channels; then the two rules of the reference on every status.
+fn fitness() {
+    let cases = [
+        (0x00, [true, true, true], 0),
+        (0x01, [true, true, true], 1),
+        (0x07, [true, true, true], 3),
+        (0x08, [false, false, false], 0),
+        (0x10, [false, false, false], 0),
+        (0x18, [false, false, false], 0),
+        (0x28, [false, false, false], 0),
+        (0x09, [false, true, true], 1),
+        (0x0A, [true, false, true], 1),
+        (0x48, [false, false, false], 0),
+        (0x20, [true, true, true], 0),
+        (0x30, [false, false, false], 0),
+        (0x1F, [false, false, false], 3),
+        (0x80, [false, false, false], 0),
+    ];
+    for (status, fit, flagged) in cases {
+        assert_eq!([0, 1, 2].map(|axis| is_fit(status, axis)), fit);
+        assert_eq!(flagged_channels(status), flagged);
+    }
+    for axis in 0..3 {
+        for status in 0..=255 {
+            let unfit = fast::unfit_axes(status) >> axis & 1 == 1;
+            assert_eq!(is_fit(status, axis), !unfit, "status {status}, axis {axis}");
+        }
+        // Of the 64 without bits 7 and 6, the 16 without bits 3 and 4; of the 48
+        // others, the 24 that don't name this axis, but for the 6 that name none.
+        let fit = (0..=255).filter(|&status| is_fit(status, axis)).count();
+        assert_eq!(fit, 16 + 24 - 6);
+    }
 }
 
 /// A datagram of the example setup.
@@ -442,6 +483,60 @@ fn listed_cases() {
     println!("{} listed calls", cases.len());
 }
 
+/// The listed stream of statuses between fit ones. What is unfit leaves its
+/// totals as they were, and the next fit datagram catches up.
+fn listed_errors() {
+    let lines = [
+        "1,0,0,0,0,0,0,0,0,0,0",
+        "2,2,0,0,1,10,100,8,0,0,0",
+        "3,4,0,0,2,20,200,0,2,20,200",
+        "4,6,0,0,3,30,300,16,2,20,200",
+        "5,8,0,0,4,40,400,0,4,40,400",
+        "6,10,0,0,5,50,500,24,4,40,400",
+        "7,12,0,0,6,60,600,0,6,60,600",
+        "8,14,0,0,7,70,700,40,6,60,600",
+        "9,16,0,0,8,80,800,0,8,80,800",
+        "10,18,0,0,9,90,900,9,8,90,900",
+        "11,20,0,0,10,100,1000,0,10,100,1000",
+        "12,22,0,0,11,110,1100,72,10,100,1000",
+        "13,24,0,0,12,120,1200,0,12,120,1200",
+    ];
+    let expected: String = lines
+        .iter()
+        .map(|line| format!("{line},,,,,,,,,,,,,,\n"))
+        .collect();
+    let calls = listed::pieces_of_statuses();
+    let answer = answer_text(calls.last().unwrap());
+    assert!(answer.contains(&expected), "{answer}");
+}
+
+/// In the listed stream of every status each group has all 256, and each total
+/// moves with the datagrams that are fit, and with no other.
+fn every_listed_status() {
+    let mut times = [[0; 256]; 3];
+    let mut before: Totals = [[None; 3]; 3];
+    for run in listed_runs().iter().filter(|run| keeps_all_totals(run)) {
+        for (fields, totals) in run.fields.iter().zip(&run.totals) {
+            for (group, &status) in fields.statuses.iter().enumerate() {
+                times[group][usize::from(status)] += 1;
+                for axis in 0..3 {
+                    let has_moved = totals[group][axis] != before[group][axis];
+                    assert_eq!(has_moved, is_fit(status, axis), "status {status}");
+                }
+            }
+            before = *totals;
+        }
+    }
+    // All is fit in one more, at the front.
+    let mut expected = [1; 256];
+    expected[0] = 2;
+    assert_eq!(times, [expected; 3]);
+}
+
+fn keeps_all_totals(run: &Run) -> bool {
+    (0..3).all(|group| keeps_totals(&run.session.setup, group))
+}
+
 /// Whole pieces, however they are cut: the lines are those that the program
 /// prints, the session is the one that feeding leaves, and nothing else of the
 /// buffer is touched.
@@ -690,7 +785,7 @@ fn making_program() {
 type Maker = fn(&Setup, &Values, &mut [u8]) -> Result<usize, Refusal>;
 
 /// Writers that a careless reading of 2.1 gives. The stored records, and 400
-/// generated ones of any seed, tell each from the right one.
+/// generated ones of three seeds, tell each from the right one.
 const WRONG_MAKERS: [(&str, Maker); 15] = [
     ("a check without its zero bytes", |setup, values, buffer| {
         alter_check(setup, values, buffer, check_unpadded)
@@ -869,7 +964,7 @@ fn wrong_makers() {
 type LineReader = fn(&[u8]) -> Result<Values, Fault>;
 
 /// Readers of rehearsal lines that a careless reading gives. The stored records,
-/// and 900 generated ones of any seed, tell each from the right one.
+/// and 900 generated ones of three seeds, tell each from the right one.
 const WRONG_LINE_READERS: [(&str, LineReader); 14] = [
     ("-0 is a number", |line| {
         alter_fields(line, |_, field| (field == b"-0").then(|| b"0".to_vec()))
@@ -980,6 +1075,177 @@ fn wrong_line_readers() {
         "{} wrong readers of lines told apart",
         WRONG_LINE_READERS.len()
     );
+}
+
+/// What a group's status is taken for when its axes are judged.
+type StatusReader = fn(usize, u8) -> u8;
+
+/// Rules of fitness that a careless reading of 2.2 gives. The totals of the listed
+/// pieces, and of 400 generated inputs of three seeds, tell each from the right one.
+const WRONG_STATUSES: [(&str, StatusReader); 13] = [
+    ("no axis named is none", |_, status| {
+        if_none_named(status, status & !0x18)
+    }),
+    ("no axis named is none for bit 3", |_, status| {
+        if_none_named(status, status & !0x08)
+    }),
+    ("no axis named is none for bit 4", |_, status| {
+        if_none_named(status, status & !0x10)
+    }),
+    (
+        "no axis named is all only for bits 3 and 4 together",
+        |_, status| {
+            let has_both = status & 0x18 == 0x18;
+            if_none_named(status, if has_both { status } else { status & !0x18 })
+        },
+    ),
+    ("no axis named is X", |_, status| {
+        if_none_named(status, status | 1)
+    }),
+    ("one axis named is all", |_, status| {
+        if flagged_channels(status) == 1 {
+            status | 7
+        } else {
+            status
+        }
+    }),
+    ("no axis named is all without bits 3 and 4", |_, status| {
+        if_none_named(status, status | 0x08)
+    }),
+    ("no axis named is all for bit 5", |_, status| {
+        if_none_named(status, status | status >> 2 & 0x08)
+    }),
+    ("no axis named is none beside bit 5", |_, status| {
+        let has_bit_5 = status & 0x20 != 0;
+        if_none_named(status, if has_bit_5 { status & !0x18 } else { status })
+    }),
+    ("bits 7 and 6 are for the axes named", |_, status| {
+        if status & 0xC0 != 0 {
+            status & 0x3F | 0x08
+        } else {
+            status
+        }
+    }),
+    (
+        "no axis named is none in the gyro group",
+        |group, status| none_named_in(0, group, status),
+    ),
+    (
+        "no axis named is none in the accelerometer group",
+        |group, status| none_named_in(1, group, status),
+    ),
+    (
+        "no axis named is none in the inclinometer group",
+        |group, status| none_named_in(2, group, status),
+    ),
+];
+
+/// Another status if bits 0 to 2 are clear.
+fn if_none_named(status: u8, other: u8) -> u8 {
+    if status & 7 == 0 {
+        other
+    } else {
+        status
+    }
+}
+
+/// In one group, no axis named is none.
+fn none_named_in(wrong_group: usize, group: usize, status: u8) -> u8 {
+    if group == wrong_group {
+        if_none_named(status, status & !0x18)
+    } else {
+        status
+    }
+}
+
+/// The totals that come back with a datagram, where they have begun.
+type Totals = [[Option<i64>; 3]; 3];
+
+/// What is handed out along a stretch of a stream.
+struct Run {
+    /// The session before it.
+    session: Session,
+    fields: Vec<Fields>,
+    totals: Vec<Totals>,
+}
+
+fn run_of(session: Session, bytes: &[u8]) -> Run {
+    let mut run = Run {
+        session,
+        fields: Vec::new(),
+        totals: Vec::new(),
+    };
+    let mut session = session;
+    for mut rest in bytes.chunks(PIECE_LIMIT) {
+        while !rest.is_empty() {
+            let answer = feed(&session, rest);
+            session = answer.session;
+            rest = &rest[answer.taken..];
+            if answer.outcome == Outcome::Datagram {
+                let totals = answer.datagram.totals;
+                run.fields.push(answer.datagram.fields);
+                run.totals.push(
+                    totals.map(|group| group.map(|total| total.begun.then_some(total.steps))),
+                );
+            }
+        }
+    }
+    run
+}
+
+/// The listed pieces of statuses.
+fn listed_runs() -> Vec<Run> {
+    let calls = listed::pieces_of_statuses();
+    let runs = calls.iter().map(|call| match call {
+        Call::WholePiece(session, piece, _, _) => run_of(**session, piece),
+        _ => panic!("these are whole pieces"),
+    });
+    runs.collect()
+}
+
+/// The generated inputs of a seed that have a good setup.
+fn generated_runs(seed: u64, count: u64) -> Vec<Run> {
+    let inputs = (0..count).map(|number| input_of_case(seed, number));
+    let runs = inputs.filter_map(|input| {
+        let (line, bytes) = split_input(&input);
+        let session = open_session(&read_setup_line(line).ok()?).ok()?;
+        Some(run_of(session, bytes))
+    });
+    runs.collect()
+}
+
+/// The totals along a run if statuses are taken for others.
+fn totals_by(run: &Run, reader: StatusReader) -> Vec<Totals> {
+    let setup = &run.session.setup;
+    let mut axes = run.session.axes;
+    let mut totals = Vec::new();
+    for fields in &run.fields {
+        for group in (0..3).filter(|&group| keeps_totals(setup, group)) {
+            let status = reader(group, fields.statuses[group]);
+            for axis in (0..3).filter(|&axis| is_fit(status, axis)) {
+                add_fit_reading(&mut axes[group][axis], fields.readings[group][axis]);
+            }
+        }
+        totals.push(axes.map(|group| group.map(|axis| axis.begun.then_some(axis.total))));
+    }
+    totals
+}
+
+fn wrong_statuses() {
+    let mut sources = vec![("listed".to_string(), listed_runs())];
+    for seed in 1..=3 {
+        sources.push((format!("seed {seed}"), generated_runs(seed, 400)));
+    }
+    for (source, runs) in &sources {
+        for run in runs {
+            assert_eq!(totals_by(run, |_, status| status), run.totals);
+        }
+        for (name, wrong) in WRONG_STATUSES {
+            let told_apart = |run: &Run| totals_by(run, wrong) != run.totals;
+            assert!(runs.iter().any(told_apart), "{source}: {name}");
+        }
+    }
+    println!("{} wrong rules of fitness told apart", WRONG_STATUSES.len());
 }
 
 // ---------------------------------------------------------- plain against fast

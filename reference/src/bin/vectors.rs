@@ -17,7 +17,7 @@ use std::process::ExitCode;
 
 use stim_reference::call::{answer_text, record_of, Call};
 use stim_reference::datagram::{encode, Fields, Gap};
-use stim_reference::generate::{doubtful_setup_line, setup_of_case, stream};
+use stim_reference::generate::{doubtful_setup_line, error_status, setup_of_case, stream};
 use stim_reference::generate_make;
 use stim_reference::layout::{datagram_length, layout_of};
 use stim_reference::line::{judge_line, text_of, Line};
@@ -77,8 +77,9 @@ fn stored_calls() -> Vec<Call> {
         add_single_case(STORED_SEED, number, calls);
     });
     let listed_cases = listed::cases().into_iter().map(|(call, _)| call);
+    let listed_pieces = [listed::whole_pieces(), listed::pieces_of_statuses()];
     let mut seen = HashSet::new();
-    for call in listed_cases.chain(listed::whole_pieces()) {
+    for call in listed_cases.chain(listed_pieces.into_iter().flatten()) {
         if seen.insert(record_of(&call)) {
             stored.push(call);
         }
@@ -411,7 +412,19 @@ fn datagram_bytes(random: &mut Random, setup: &Setup) -> Vec<u8> {
 fn status(random: &mut Random) -> u8 {
     let any = random.byte();
     let axes = random.below(8) as u8;
-    random.pick(&[0, 0, any, 0x08 | axes, 0x10 | axes, 0x20 | axes, 0x40, 0x80])
+    let error = error_status(random);
+    random.pick(&[
+        0,
+        0,
+        any,
+        error,
+        error,
+        0x08 | axes,
+        0x10 | axes,
+        0x20 | axes,
+        0x40,
+        0x80,
+    ])
 }
 
 /// Breaks one clause of refusal 10, or goes just up to it.
