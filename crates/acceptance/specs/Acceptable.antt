@@ -8,7 +8,6 @@ use Rattle.integers.specs.Bytes.{bigEndian, inBytes}
 use Rattle.crc.specs.Check.{checkOf}
 use Rattle.setup.specs.Layout.{bytes, Layout, layoutOf, checkBytes, lengthIn, rowAt}
 use Rattle.setup.specs.Setup.{terminated}
-use Rattle.setup.specs.declared.Row.{Row}
 use Rattle.setup.specs.declared.Listing.{Listing}
 use Rattle.setup.specs.declared.Listing.the-variants.{Listed, Unlisted}
 use Rattle.setup.specs.declared.Setup.{Setup}

@@ -1,24 +1,23 @@
 -- The test of refusal 10 and its clauses as facts agree: a session is turned down by 10 exactly if a clause of 01 fails of it. Assumes nothing.
-use Prim.Native.Nat.{ℕ, zero, suc, _+_, _-_, _*_, _^_, _≤_, _<_}
+use Prim.Native.Nat.{ℕ, zero, suc, _+_, _-_, _<_}
 use mathlib.Core.Path.{_≡_, refl, sym, ap, _∙_, subst}
 use mathlib.Core.Bool.{Bool, true, false, _&&_, _||_}
 use mathlib.Core.List.{List, [], _∷_}
 use mathlib.Core.Logic.{_⊎_, inl, inr}
 use native.Mathlib.Omega.{arith}
-use borrow.Author.Tests.{eqb-true, eqb-false, eq-eqb, ltb-true, lt-ltb}
+use borrow.Author.Tests.{eqb-true, eq-eqb, ltb-true, lt-ltb}
 use lib.Dec.{eqb, ltb}
-use lib.ListN.{length, take, drop, getD}
+use lib.ListN.{drop, getD}
 use lib.Seq.{getD-drop}
 use Rattle.integers.proofs.Ranges.{inReading-true, range-inReading}
-use Rattle.integers.proofs.Booleans.{and-split, and-true}
+use Rattle.integers.proofs.Booleans.{and-split, and-true, or-true}
 use Rattle.setup.specs.Setup.{lengthOf}
 use Rattle.setup.proofs.Rules.{number-accepted, accepted-number}
 use Rattle.motion.specs.Totals.{keeps, groupsKept, axisAt}
 use Rattle.motion.specs.declared.Axis.{Axis}
 use Rattle.motion.proofs.NineAxes.{kept-at}
-use Rattle.search.specs.Search.{rulesOf}
 use Rattle.session.specs.declared.Session.{Session}
-use Rattle.admission.specs.Admission.{heldBytes, allZero, axesRight, isSound}
+use Rattle.admission.specs.Admission.{allZero, isSound}
 use Rattle.admission.specs.SoundSession.{AxisPasses, PassesTen}
 use Rattle.admission.proofs.Soundness.{Facts, sound-facts, facts-sound, held-rule}
 use Rattle.admission.proofs.AxisLaws.{AxisFacts, axes-at, each-axes}
@@ -36,11 +35,7 @@ held-either n first identifier size e = by (eqb n 0) refl e
 
 either-held : (n first identifier size : ℕ) → (n ≡ 0) ⊎ ((first ≡ identifier) × (n < size)) → (eqb n 0 || (eqb first identifier && ltb n size)) ≡ true
 either-held n first identifier size (inl e) = rw (eq-eqb n 0 e)
-either-held n first identifier size (inr p) = by (eqb n 0)
-  where
-    by : (b : Bool) → (b || (eqb first identifier && ltb n size)) ≡ true
-    by true = refl
-    by false = and-true (eq-eqb first identifier (p .0)) (lt-ltb n size (p .1))
+either-held n first identifier size (inr p) = or-true (eqb n 0) (and-true (eq-eqb first identifier (p .0)) (lt-ltb n size (p .1)))
 
 -- ---- zeros beyond the count
 

@@ -1,20 +1,18 @@
 -- For an accepted setup, what a datagram does and what comes back with it by the sensor is that by the setup's own rules. Assumes nothing.
-use Prim.Native.Nat.{ℕ, _<_}
-use mathlib.Core.Path.{_≡_, refl, sym, ap, _∙_}
-use mathlib.Core.Bool.{Bool, false}
+use Prim.Native.Nat.{ℕ}
+use mathlib.Core.Path.{_≡_, sym, ap, _∙_}
+use mathlib.Core.Bool.{Bool}
 use mathlib.Core.List.{List}
-use lib.ListN.{getD}
 use Rattle.setup.specs.Setup.{rulingOn}
 use Rattle.setup.specs.Sensor.{sensorOf}
 use Rattle.setup.specs.declared.Setup.{Setup}
 use Rattle.setup.specs.declared.Sensor.{Sensor}
 use Rattle.setup.specs.declared.Ruling.the-variants.{Accepted}
-use Rattle.setup.proofs.Refusals.{each}
 use Rattle.wire.specs.Fields.{Contents, fieldsOf}
 use Rattle.wire.proofs.FieldBytes.{sensor-fields}
 use Rattle.gaps.specs.Gaps.{gapAt}
 use Rattle.gaps.proofs.AcceptedSetup.{accepted-gap}
-use Rattle.motion.specs.Totals.{keeps, groupsKept}
+use Rattle.motion.specs.Totals.{groupsKept}
 use Rattle.motion.proofs.AcceptedSetup.{accepted-kept}
 use Rattle.search.specs.Search.{verdictOf, verdictIn}
 use Rattle.search.proofs.Sensors.{verdict-sensor}

@@ -11,7 +11,7 @@ use lib.ListN.{length, take, drop, length-append}
 use lib.Seq.{take-at, drop-at, drop-drop, take-add}
 use borrow.Author.Tests.{eqb-true, eq-eqb, not-true}
 use Rattle.integers.specs.Bytes.{joined}
-use Rattle.integers.proofs.Booleans.{and-split}
+use Rattle.integers.proofs.Booleans.{and-split, or-true}
 use Rattle.setup.specs.Layout.{Part, widths, sum, size, bytes, place, carries, offset}
 use Rattle.setup.proofs.Layouts.{same-part}
 use Rattle.wire.specs.Fields.{window, cut, fieldsOfPart}
@@ -105,11 +105,7 @@ in-turn-same f g (q ∷ qs) h =
     here q qs = rw (eq-eqb (place q) (place q) refl)
 
     later : (p q : Part) (qs : List Part) → carries qs p ≡ true → carries (q ∷ qs) p ≡ true
-    later p q qs c = rw c (or-true (eqb (place p) (place q)))
-      where
-        or-true : (t : Bool) → (t || true) ≡ true
-        or-true true = refl
-        or-true false = refl
+    later p q qs c = or-true (eqb (place p) (place q)) c
 
 -- no part stands twice
 abbrev pub distinct : List Part → Bool

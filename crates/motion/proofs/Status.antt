@@ -5,6 +5,7 @@ use mathlib.Core.Path.{_≡_, refl, ap}
 use native.Mathlib.Omega.{arith}
 use lib.Dec.{eqb}
 use borrow.Author.Tests.{eq-eqb, ne-eqb}
+use Rattle.integers.proofs.Booleans.{and-true, or-true, three-any, three-none}
 use Rattle.motion.specs.Status.{bit, isSet, noneFlagged, named, unfit, fit, flagged}
 
 -- ---- which channels are flagged
@@ -28,26 +29,6 @@ none-flagged status =
     by x y z false false true e f g = ne-eqb (x + y + z) 0 (λ h. omega arith)
     by x y z false false false e f g = eq-eqb (x + y + z) 0 (omega arith)
 
-module _ (status : ℕ) where
-  -- none is flagged where bits 0 to 2 are clear, and not where one of them is set
-  none-set : ((other : ℕ) → other < 3 → isSet status other ≡ false) → noneFlagged status ≡ true
-  none-set clear = rw (clear 0 (omega arith), clear 1 (omega arith), clear 2 (omega arith))
-
-  some-set : (other : ℕ) → other < 3 → isSet status other ≡ true → noneFlagged status ≡ false
-  some-set zero h e = rw e
-  some-set (suc zero) h e = rw e (by (isSet status 0))
-    where
-      by : (x : Bool) → not (x || true || isSet status 2) ≡ false
-      by true = refl
-      by false = refl
-  some-set (suc (suc zero)) h e = rw e (by (isSet status 0) (isSet status 1))
-    where
-      by : (x y : Bool) → not (x || y || true) ≡ false
-      by true y = refl
-      by false true = refl
-      by false false = refl
-  some-set (suc (suc (suc other))) h e = absurd (omega arith)
-
 -- ---- fit and unfit
 
 module _ (status axis : ℕ) where
@@ -59,11 +40,7 @@ module _ (status axis : ℕ) where
   -- measurement error or overload leaves an axis unfit that it names
   names : (isSet status 3 || isSet status 4) ≡ true → named status axis ≡ true → fit status axis ≡ false
   unfolding unfit
-  names e n = by (isSet status 7 || isSet status 6) (isSet status 3 || isSet status 4) (named status axis) e n
-    where
-      by : (all some own : Bool) → some ≡ true → own ≡ true → not (all || (some && own)) ≡ false
-      by true some own p q = refl
-      by false some own p q = rw (p, q)
+  names e n = ap not (or-true (isSet status 7 || isSet status 6) (and-true e n))
 
   -- one whose bit is set
   pub unfit-named : (isSet status 3 || isSet status 4) ≡ true → isSet status axis ≡ true → fit status axis ≡ false
@@ -72,18 +49,14 @@ module _ (status axis : ℕ) where
   -- every one where bits 0 to 2 are clear
   pub unfit-none-flagged :
       (isSet status 3 || isSet status 4) ≡ true → ((other : ℕ) → other < 3 → isSet status other ≡ false) → fit status axis ≡ false
-  unfit-none-flagged e clear = names e (rw (none-set status clear) (by (isSet status axis)))
-    where
-      by : (own : Bool) → (own || true) ≡ true
-      by true = refl
-      by false = refl
+  unfit-none-flagged e clear = names e (or-true (isSet status axis) (ap not (three-none (isSet status) clear)))
 
   -- an axis whose bit is clear where another one's is set, is fit without integrity and start-up
   pub fit-unnamed :
       (isSet status 7 || isSet status 6) ≡ false → isSet status axis ≡ false → (other : ℕ) → other < 3 → isSet status other ≡ true
       → fit status axis ≡ true
   unfolding unfit
-  fit-unnamed e n other h o = rw (e, n, some-set status other h o) (by (isSet status 3 || isSet status 4))
+  fit-unnamed e n other h o = rw (e, n, ap not (three-any (isSet status) other h o)) (by (isSet status 3 || isSet status 4))
     where
       by : (some : Bool) → not (false || (some && (false || false))) ≡ true
       by true = refl

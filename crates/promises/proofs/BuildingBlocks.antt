@@ -2,7 +2,7 @@
 use Prim.Native.Nat.{ℕ}
 use mathlib.Core.List.{List}
 use mathlib.Core.Option.{none}
-use mathlib.Core.Path.{_≡_, sym, ap, subst}
+use mathlib.Core.Path.{_≡_, sym, subst}
 use Rattle.setup.specs.Setup.{setupNumber}
 use Rattle.setup.specs.Sensor.{sensorOf}
 use Rattle.setup.specs.declared.Setup.{Setup}
@@ -10,7 +10,7 @@ use Rattle.setup.proofs.Rules.{number-accepted}
 use Rattle.setup.proofs.Rows.{listed-row-at, unlisted-five}
 use Rattle.setup.proofs.Sensors.{described-number, described-sensor}
 use Rattle.scan.specs.Scan.{Verdict, first}
-use Rattle.search.specs.Search.{verdictOf, verdictIn, placeOf}
+use Rattle.search.specs.Search.{verdictIn, placeOf}
 use Rattle.search.proofs.Sensors.{verdict-sensor}
 use Rattle.search.proofs.Places.{place-none, place-decided, place-complete, place-open}
 use Rattle.admission.proofs.PieceRulings.{admitted-number, admitted-sensor}

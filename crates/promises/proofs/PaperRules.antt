@@ -1,6 +1,6 @@
 -- The rules say what the paper says. Assumes nothing.
-use Prim.Native.Nat.{ℕ, zero, suc, _+_, _-_, _*_, _^_, _≤_, _<_}
-use mathlib.Core.Bool.{Bool, true, false, cond}
+use Prim.Native.Nat.{ℕ, zero, suc, _+_, _-_, _^_, _≤_, _<_}
+use mathlib.Core.Bool.{true, cond}
 use mathlib.Core.List.{List, [], _∷_, _++_}
 use mathlib.Core.Option.{none, some}
 use mathlib.Core.Path.{_≡_, refl, sym, ap, ap₂, _∙_, subst}
@@ -9,17 +9,17 @@ use lib.Dec.{eqb}
 use lib.IntN.{ℤ, pos, _+ℤ_, _-ℤ_, _*ℤ_}
 use lib.ListN.{length, take, drop, getD, length-drop}
 use lib.Seq.{length-take-le, take-at, drop-at, drop-cons}
-use Rattle.integers.specs.Bytes.{AllBytes, bigEndian}
+use Rattle.integers.specs.Bytes.{AllBytes}
 use Rattle.integers.specs.Folding.{fold}
 use Rattle.integers.specs.Ranges.{inReading}
 use Rattle.integers.proofs.Booleans.{and-true}
 use Rattle.integers.proofs.Bytes.{bytes-take, bytes-drop, bigEndian-injective, all-areBytes}
 use Rattle.integers.proofs.Values.{inBytes-length, inBytes-bytes}
 use Rattle.integers.proofs.Folding.{fold-range, fold-congruent}
-use Rattle.integers.proofs.Parts.{posPart, negPart, parts-ext, add-parts, sub-parts, mul-posPart, mul-negPart}
+use Rattle.integers.proofs.Parts.{parts-ext, add-parts, sub-parts, mul-posPart, mul-negPart}
 use Rattle.integers.proofs.Ranges.{range-inReading}
 use Rattle.integers.proofs.Rounding.{floor-not-above, floor-greatest}
-use Rattle.crc.specs.Check.{stim300, checkOf, check32}
+use Rattle.crc.specs.Check.{check32}
 use Rattle.setup.specs.Layout.{Entry, entry, table, carrying, bytes, partsOf, layoutOf, rowAt, listingRow}
 use Rattle.setup.specs.Setup.{setupNumber, terminated, lengthOf}
 use Rattle.setup.specs.AcceptedSetup.{lineOfTable, PassesNine}
@@ -40,7 +40,6 @@ use Rattle.made_datagram.specs.Making.{fieldValues, madeDatagram}
 use Rattle.made_datagram.proofs.Fifteen as fifteen
 use Rattle.made_datagram.proofs.RoundTrips.{made-bytes, made-acceptable}
 use Rattle.made_datagram.proofs.WorkedExample.{worked}
-use Rattle.gaps.specs.Gaps.{elapsed}
 use Rattle.gaps.proofs.Gaps.{elapsed-back, elapsed-range, missed-steps, off-step, first-none, trigger-none}
 use Rattle.motion.proofs.AcceptedSetup.{integrated-kept, other-not-kept}
 use Rattle.motion.proofs.Status.{unfit-all, unfit-named, unfit-none-flagged, fit-unnamed, fit-clear}

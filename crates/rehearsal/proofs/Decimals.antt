@@ -8,7 +8,7 @@ use lib.Dec.{eqb}
 use lib.IntN.{ℤ, pos, negsuc, negℤ}
 use lib.ListN.{length, getD}
 use borrow.Author.Tests.{le-leb, ne-eqb}
-use Rattle.integers.proofs.Booleans.{and-split, and-true}
+use Rattle.integers.proofs.Booleans.{and-split, and-true, or-true}
 use Rattle.integers.proofs.Parts.{posPart, negPart}
 use Rattle.setup_line.specs.SetupLine.{isDigit, allDigits}
 use Rattle.setup_line.proofs.Digits.{digit-range}
@@ -42,14 +42,9 @@ first-digit n = by (digits n) (some-digits n) (digits-all n)
 -- only `0` itself begins with a zero
 alone-or-led : (n : ℕ) → (eqb (length (digits n)) 1 || not (eqb (getD (digits n) 0 0) 0x30)) ≡ true
 alone-or-led zero = rw (digits-small 0 (omega arith))
-alone-or-led (suc n) = by (eqb (length (digits (suc n))) 1)
-  where
-    led : eqb (getD (digits (suc n)) 0 0) 0x30 ≡ false
-    led = ne-eqb (getD (digits (suc n)) 0 0) 0x30 (λ e. omega (arith, no-leading-zero (suc n) (omega arith)))
-
-    by : (t : Bool) → (t || not (eqb (getD (digits (suc n)) 0 0) 0x30)) ≡ true
-    by true = refl
-    by false = rw led
+alone-or-led (suc n) =
+    or-true (eqb (length (digits (suc n))) 1)
+    (ap not (ne-eqb (getD (digits (suc n)) 0 0) 0x30 (λ e. omega (arith, no-leading-zero (suc n) (omega arith)))))
 
 digits-written : (n : ℕ) → digitsWritten (digits n) ≡ true
 unfolding digitsWritten
@@ -81,11 +76,7 @@ decimal-value (negsuc n) =
 
 pub shown-written : (t : Bool) (z : ℤ) → fieldWritten (shownIf t (decimal z)) ≡ true
 unfolding fieldWritten
-shown-written true z = by (eqb (length (decimal z)) 0)
-  where
-    by : (b : Bool) → (b || numberWritten (decimal z)) ≡ true
-    by true = refl
-    by false = decimal-written z
+shown-written true z = or-true (eqb (length (decimal z)) 0) (decimal-written z)
 shown-written false z = refl
 
 -- such a field says its number where it is shown, and else 0

@@ -8,6 +8,7 @@ use lib.Dec.{eqb}
 use lib.IntN.{ℤ, pos}
 use lib.ListN.{length, length-append, getD}
 use borrow.Author.Tests.{le-ltb}
+use Rattle.integers.proofs.Booleans.{or-true}
 use Rattle.integers.proofs.Parts.{posPart, negPart}
 use Rattle.integers.proofs.Ranges.{inReading-true}
 use Rattle.setup.proofs.Refusals.{each}
@@ -67,11 +68,7 @@ groups-numbers carried kept readings statuses totals =
 -- missed may be `?`
 missed-written : (gap : Gap) → (fieldWritten (missedField gap) || (eqb 3 3 && eqb (length (missedField gap)) 1 && eqb (getD (missedField gap) 0 0) 0x3F)) ≡ true
 missed-written (Missed count) = rw (digits-field true (count .0))
-missed-written OffStep = by (fieldWritten (0x3F ∷ []))
-  where
-    by : (t : Bool) → (t || true) ≡ true
-    by true = refl
-    by false = refl
+missed-written OffStep = or-true (fieldWritten (0x3F ∷ [])) refl
 
 missed-fits : (gap : Gap) → ((count : Datagrams) → gap ≡ Missed count → count .0 < 2 ^ 64) → MissedFits gap
 missed-fits (Missed count) h = h count refl

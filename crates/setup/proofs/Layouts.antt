@@ -5,12 +5,12 @@ use mathlib.Core.Bool.{Bool, true, false, _&&_, _||_, cond}
 use mathlib.Core.List.{List, [], _∷_, _++_, map}
 use mathlib.Core.Path.{_≡_, refl, sym, ap, _∙_}
 use lib.Dec.{eqb, ltb, leb}
-use lib.ListN.{getD, length}
+use lib.ListN.{getD}
 use borrow.Author.Tests.{eqb-true, lt-ltb}
 use Rattle.crc.specs.Check.{stim300}
 use Rattle.setup.specs.Layout.{Part, identifier, gyro, accelerometer, inclinometer, gyroTemperatures, accelerometerTemperatures}
 use Rattle.setup.specs.Layout.{inclinometerTemperatures, aux, counter, latency, size, bytes, only, groupParts, temperatureParts, partsOf}
-use Rattle.setup.specs.Layout.{Layout, layoutOf, lengthIn, Entry, table, R, has, carrying, place, carries, offset, placed}
+use Rattle.setup.specs.Layout.{layoutOf, lengthIn, Entry, table, R, has, carrying, place, carries, offset, placed}
 use Rattle.setup.specs.declared.Row.{Row}
 use Rattle.setup.proofs.Rows.{every-row}
 

@@ -1,15 +1,14 @@
 -- The tests of 4 to 9 and their clauses as facts agree: a setup is accepted exactly if every clause of 01 holds of it.
-use Prim.Native.Nat.{ℕ, zero, suc, _≤_, _<_}
+use Prim.Native.Nat.{ℕ, suc, _≤_, _<_}
 use native.Mathlib.Omega.{arith}
-use mathlib.Core.Bool.{Bool, true, false, not, _&&_, _||_, cond}
+use mathlib.Core.Bool.{Bool, true, false, _||_}
 use mathlib.Core.List.{List, [], _∷_}
 use mathlib.Core.Logic.{_⊎_, inl, inr}
-use mathlib.Core.Option.{Option, none, some}
-use mathlib.Core.Path.{_≡_, refl, sym, ap, _∙_}
+use mathlib.Core.Option.{none, some}
+use mathlib.Core.Path.{_≡_, refl, ap, _∙_}
 use borrow.Author.Tests.{eqb-true, eq-eqb, le-ltb}
-use lib.Dec.{eqb, ltb}
+use lib.Dec.{eqb}
 use lib.ListN.{length, getD}
-use Rattle.integers.proofs.Booleans.{and-true}
 use Rattle.setup.specs.Layout.{Entry, entry, table, rowIn, rowAt, listingRow, groupsCarried}
 use Rattle.setup.specs.Setup.{rateListed, isListed, anyAbove, strayGroup, stray, setupRules, setupNumber}
 use Rattle.setup.specs.AcceptedSetup.{lineOfTable, PassesNine}

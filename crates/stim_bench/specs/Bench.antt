@@ -1,9 +1,8 @@
 -- A helper of proofs, no rule of 01: what the contracts of the bench program cite.
-use Prim.Native.Nat.{ℕ, suc, _+_, _≤_, _<_, min}
+use Prim.Native.Nat.{ℕ, _+_, _≤_, _<_, min}
 use mathlib.Core.Path.{_≡_}
-use mathlib.Core.Bool.{true, cond}
-use mathlib.Core.List.{List, [], _∷_, _++_}
-use lib.Dec.{eqb}
+use mathlib.Core.Bool.{true}
+use mathlib.Core.List.{List, [], _++_}
 use lib.ListN.{length, take, drop}
 use Rattle.setup.specs.declared.Ruling.the-variants.{Accepted}
 use Rattle.setup_line.specs.SetupLine.{lineRead, lineEnd}

@@ -1,6 +1,6 @@
 -- A helper of proofs, no rule of 02: what the contracts of the program that makes datagrams cite, the datagrams of the lines among bytes, and how the
 -- program keeps a line.
-use Prim.Native.Nat.{ℕ, suc, _+_, _≤_, _<_, min}
+use Prim.Native.Nat.{ℕ, _+_, _≤_, _<_, min}
 use mathlib.Core.Path.{_≡_}
 use mathlib.Core.Bool.{Bool, true, false, cond}
 use mathlib.Core.List.{List, [], _∷_, _++_}
