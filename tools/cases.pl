@@ -1,6 +1,6 @@
 #!/usr/bin/perl
-# Writes the cases that another program answers: the check by the Debian package libdigest-crc-perl, and datagrams, statuses, gaps and text
-# lines by a few lines of Perl written from 01 and 02. The text lines (`write`) stand in reference/src/line_cases.txt, the others in
+# Writes the cases that another program answers: the check by the Debian package libdigest-crc-perl, and datagrams, statuses, judgements, gaps
+# and text lines by a few lines of Perl written from 01 and 02. The text lines (`write`) stand in reference/src/line_cases.txt, the others in
 # crates/cases/stdin.
 use strict;
 use warnings;
@@ -90,12 +90,24 @@ for my $identifier (sort { $a <=> $b } keys %carries) {
     }
 }
 
-# 01, Status, doubles, gaps; 02, 2.2: bit 3 or 4 with none of bits 0 to 2 names all three axes
+# 02, 2.3: the judgement of an axis by its place in the paper's order, 0 fit, 1 integrity, 2 start-up, 3 error, 4 overload. The first of 1 to 4
+# that applies is named: bits 7 and 6 for every axis, bits 3 and 4 for an axis whose own bit is set, or if none of bits 0 to 2 is (2.2).
+sub judgement {
+    my ($status, $axis) = @_;
+    my @bits = reverse split //, sprintf "%08b", $status;
+    my $is_named = $bits[$axis] || !grep { $_ } @bits[0 .. 2];
+    my @applies = ($bits[7], $bits[6], $bits[3] && $is_named, $bits[4] && $is_named);
+    for my $place (1 .. 4) { return $place if $applies[$place - 1]; }
+    return 0;
+}
+
+# 01, Status, doubles, gaps; 02, 2.2: bit 3 or 4 with none of bits 0 to 2 names all three axes; 2.3
 for my $status (0 .. 255) {
     my $named = $status & 7 || 7;
     my @fit = map { ($status & 0xC0) || (($status & 0x18) && ($named & (1 << $_))) ? 0 : 1 } 0 .. 2;
     my $flagged = grep { $status & (1 << $_) } 0 .. 2;
     printf "fit %d %d%d%d %d\n", $status, @fit, $flagged;
+    printf "judged %d %d%d%d\n", $status, map { judgement($status, $_) } 0 .. 2;
 }
 for my $rate (0, 125, 250, 500, 1000, 2000) {
     for (1 .. 12) {

@@ -45,10 +45,14 @@
 //!   passed over, fed, previous counter, nine axes (begun, last, total)
 //! * `datagram` and: nine readings, three statuses, nine temperatures and their
 //!   three statuses, AUX and its status, counter, latency, flagged channels of
-//!   three groups, of each group its unit and three doubles, missed or `?`,
-//!   nine totals (begun, steps), nine doubles of totals
+//!   three groups, nine judgements, of each group its unit and three doubles,
+//!   missed or `?`, nine totals (begun, steps), nine doubles of totals
+//!
+//! A judgement is one of the words `fit`, `integrity`, `start-up`, `error` and
+//! `overload` (02, 2.3). Where there are nine of something, it is X, Y, Z of the
+//! gyro, then of the accelerometer, then of the inclinometer.
 
-use crate::datagram::{Datagram, Gap, GroupValues};
+use crate::datagram::{Datagram, Gap, GroupValues, Judgement};
 use crate::line::{write_line, Line};
 use crate::make::{write_datagram, Values};
 use crate::rehearsal::{read_rehearsal_line, Fault};
@@ -322,6 +326,8 @@ fn datagram_text(datagram: &Datagram) -> String {
     words.push(fields.counter.to_string());
     words.push(fields.latency.to_string());
     words.extend(datagram.flagged_channels.iter().map(u32::to_string));
+    let judgements = datagram.judgements.into_iter().flatten();
+    words.extend(judgements.map(|judgement| judgement_word(judgement).to_string()));
     for values in &datagram.values {
         let (unit, doubles) = match values {
             GroupValues::Instantaneous(doubles) => (0, doubles),
@@ -344,6 +350,16 @@ fn datagram_text(datagram: &Datagram) -> String {
         words.push(bits_text(total.double));
     }
     words.join(" ") + "\n"
+}
+
+fn judgement_word(judgement: Judgement) -> &'static str {
+    match judgement {
+        Judgement::Fit => "fit",
+        Judgement::Integrity => "integrity",
+        Judgement::StartUp => "start-up",
+        Judgement::Error => "error",
+        Judgement::Overload => "overload",
+    }
 }
 
 fn mark_text(mark: bool) -> String {

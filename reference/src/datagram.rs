@@ -1,5 +1,5 @@
 //! One datagram: whether bytes make one up, its fields, and 01, "Status,
-//! doubles, gaps" and "Totals".
+//! doubles, gaps" and "Totals", with 02, 2.2 and 2.3.
 
 use crate::check::check_of;
 use crate::layout::{datagram_length, layout_of};
@@ -45,6 +45,17 @@ pub enum GroupValues {
     Integrated([f64; 3]),
 }
 
+/// The judgement of an axis (02, 2.3). The first that applies, of those behind
+/// fit, is named.
+#[derive(Clone, Copy, Debug, PartialEq, Eq)]
+pub enum Judgement {
+    Fit,
+    Integrity,
+    StartUp,
+    Error,
+    Overload,
+}
+
 /// What the counter tells since the datagram before.
 #[derive(Clone, Copy, Debug, PartialEq, Eq)]
 pub enum Gap {
@@ -77,16 +88,20 @@ pub struct Datagram {
     pub fields: Fields,
     pub values: [GroupValues; 3],
     pub flagged_channels: [u32; 3],
+    /// Of each axis of each group; fit in a group that isn't carried.
+    pub judgements: [[Judgement; 3]; 3],
     pub gap: Gap,
     pub totals: [[Total; 3]; 3],
 }
 
 impl Datagram {
-    /// What stands in an answer that hands out no datagram: zeros and unit 0.
+    /// What stands in an answer that hands out no datagram: zeros, unit 0 and
+    /// every axis fit.
     pub const ZEROS: Datagram = Datagram {
         fields: Fields::ZEROS,
         values: [GroupValues::Instantaneous([0.0; 3]); 3],
         flagged_channels: [0; 3],
+        judgements: [[Judgement::Fit; 3]; 3],
         gap: Gap::Missed(0),
         totals: [[Total::NOT_BEGUN; 3]; 3],
     };
@@ -205,6 +220,29 @@ pub fn is_fit(status: u8, axis: usize) -> bool {
     let is_named = bit(axis) || none_named;
     let unfit = bit(7) || bit(6) || ((bit(3) || bit(4)) && is_named);
     !unfit
+}
+
+/// What a group's status says of an axis (0 X, 1 Y, 2 Z). Bit 7 is integrity and
+/// bit 6 start-up, of every axis; bit 3 is error and bit 4 overload, of the axes
+/// named: those whose bit of 0 to 2 is set, or all three if none is. If several
+/// apply, it is the first of integrity, start-up, error, overload; if none does,
+/// fit (001, Table 5-23; 02, 2.2 and 2.3).
+pub fn judgement_of(status: u8, axis: usize) -> Judgement {
+    let names_axis = match status % 8 {
+        0 => true,
+        named => named >> axis & 1 == 1,
+    };
+    if status & 0b1000_0000 != 0 {
+        Judgement::Integrity
+    } else if status & 0b0100_0000 != 0 {
+        Judgement::StartUp
+    } else if status & 0b0000_1000 != 0 && names_axis {
+        Judgement::Error
+    } else if status & 0b0001_0000 != 0 && names_axis {
+        Judgement::Overload
+    } else {
+        Judgement::Fit
+    }
 }
 
 /// How many of bits 0 to 2 are one.

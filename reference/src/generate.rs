@@ -316,6 +316,8 @@ struct Sensor {
     motion: Motion,
     /// One status in so many isn't 0.
     status_share: usize,
+    /// So many more datagrams have start-up set in each group (02, 2.3).
+    warming_up: usize,
     /// One counter in so many isn't the next.
     gap_share: usize,
 }
@@ -341,6 +343,7 @@ impl Sensor {
                 Motion::Identifier,
             ]),
             status_share: random.pick(&[1, 2, 4, 4, 1000]),
+            warming_up: random.pick(&[0, 0, 0, 0, 0, 3]),
             gap_share: random.pick(&[1, 3, 6, 6, 1000]),
         }
     }
@@ -360,6 +363,10 @@ impl Sensor {
             }
             self.fields.statuses[group] = self.next_status(random);
             self.fields.temperature_statuses[group] = self.next_status(random);
+        }
+        if self.warming_up > 0 {
+            self.warming_up -= 1;
+            self.fields.statuses = self.fields.statuses.map(|status| status | 0x40);
         }
         self.fields.auxiliary = any_reading(random);
         self.fields.auxiliary_status = self.next_status(random);
@@ -404,15 +411,17 @@ impl Sensor {
         }
     }
 
-    /// 0, but for one in `status_share`. Half of those are an `error_status`; the
-    /// others, a seventh each, 0, any byte, one bit, and any axes beside bit 3,
-    /// bit 4, bit 5 and all three of these.
+    /// 0, but for one in `status_share`. Half of those are an `error_status`, a
+    /// quarter a `several_status`; the others, a seventh each, 0, any byte, one
+    /// bit, and any axes beside bit 3, bit 4, bit 5 and all three of these.
     fn next_status(&self, random: &mut Random) -> u8 {
         if !random.one_in(self.status_share) {
             return 0;
         }
-        if random.one_in(2) {
-            return error_status(random);
+        match random.below(4) {
+            0 | 1 => return error_status(random),
+            2 => return several_status(random),
+            _ => {}
         }
         let any = random.byte();
         let one_bit = 1 << random.below(8);
@@ -582,12 +591,26 @@ impl Sensor {
 /// beside them in 1 of 3, and bit 7, bit 6 or both in 1 of 6.
 pub fn error_status(random: &mut Random) -> u8 {
     let errors = random.pick(&[0x08, 0x10, 0x18]);
+    let all_unfit = random.pick(&[0x40, 0x80, 0xC0]);
+    let above = if random.one_in(6) { all_unfit } else { 0 };
+    above | errors | axes_and_conditions(random)
+}
+
+/// A status in which several judgements may apply (02, 2.3): two, three or all of
+/// bits 7, 6, 4 and 3, each such set alike. Axes and bit 5 as in `error_status`.
+pub fn several_status(random: &mut Random) -> u8 {
+    let several = random.pick(&[
+        0xC0, 0x90, 0x88, 0x50, 0x48, 0x18, 0xD0, 0xC8, 0x98, 0x58, 0xD8,
+    ]);
+    several | axes_and_conditions(random)
+}
+
+/// Bits 0 to 2 and 5: none, one, two or three axes, and outside conditions or not.
+fn axes_and_conditions(random: &mut Random) -> u8 {
     let one_axis = 1 << random.below(3);
     let axes = random.pick(&[0, 0, one_axis, 0b111 ^ one_axis, 0b111]);
     let conditions = random.pick(&[0x20, 0, 0]);
-    let all_unfit = random.pick(&[0x40, 0x80, 0xC0]);
-    let above = if random.one_in(6) { all_unfit } else { 0 };
-    above | conditions | errors | axes
+    conditions | axes
 }
 
 fn any_reading(random: &mut Random) -> i32 {

@@ -19,7 +19,8 @@
 //! Beside it:
 //!
 //! * [`fast`]: the same program written for speed
-//! * [`random`], [`generate`], [`generate_make`]: adversarial inputs from a seed
+//! * [`random`], [`generate`], [`generate_make`], [`generate_call`]: adversarial
+//!   inputs from a seed
 //! * [`call`]: single calls of the library as records, with their answers as text
 //! * [`listed`]: calls written by hand, and at their edges
 //! * [`process`]: giving a program its input, and showing what it printed
@@ -29,6 +30,7 @@ pub mod check;
 pub mod datagram;
 pub mod fast;
 pub mod generate;
+pub mod generate_call;
 pub mod generate_make;
 pub mod layout;
 pub mod line;

@@ -1,7 +1,8 @@
 //! Listed calls: the cases of `cases.txt`, written by hand from 01, of
 //! `line_cases.txt`, written by tools/cases.pl, and of `make_cases.txt`, from 02,
-//! 2.1, with what each must answer; whole pieces at their edges; and whole pieces
-//! in which every status shows in the totals.
+//! 2.1, with what each must answer; whole pieces at their edges; whole pieces in
+//! which every status shows in the totals; and calls of feed in which it shows in
+//! the judgements.
 
 use crate::call::{
     feed_text, line_text, made_text, opened_text, read_text, rehearsal_text, setup_text, Call,
@@ -563,4 +564,108 @@ fn errors_between_fit_ones() -> Vec<u8> {
             encode(&EXAMPLE, &fields)
         })
         .collect()
+}
+
+// ----------------------------------------------------------------- judgements
+
+/// The stream of every status, a datagram in each call of feed, so that the
+/// judgement of each axis comes back by every status (02, 2.3).
+pub fn feeds_of_every_status() -> Vec<Call> {
+    let (calls, _) = feeds_of_stream(fresh(THREE_GROUPS), &every_status());
+    calls
+}
+
+/// Everything carried, integrated in the gyro group only.
+const MIXED_UNITS: Setup = Setup {
+    units: [3, 2, 0],
+    ..WIDEST
+};
+
+/// A head that warms up, its inclinometer the shortest, and then is fit; each set
+/// of two or more of bits 7, 6, 4 and 3, with no axis named, and some of them with
+/// axes named; and one of these bits alone, or none.
+const JUDGED_STATUSES: [[u8; 3]; 18] = [
+    [0x40, 0x40, 0x40],
+    [0x40, 0x40, 0x40],
+    [0x40, 0x40, 0x00],
+    [0x00, 0x00, 0x00],
+    [0xC0, 0x80, 0x40],
+    [0xC8, 0x48, 0x18],
+    [0x19, 0x11, 0x0A],
+    [0x1A, 0x1C, 0x1F],
+    [0x10, 0x08, 0x20],
+    [0x16, 0x0D, 0x07],
+    [0x50, 0x90, 0x88],
+    [0x58, 0x98, 0xD8],
+    [0xD0, 0x30, 0x28],
+    [0x4A, 0x94, 0xC1],
+    [0x38, 0xD7, 0x59],
+    [0x14, 0x00, 0x12],
+    [0xFF, 0x3F, 0x27],
+    [0x00, 0x00, 0x00],
+];
+
+/// Gyro only: what stands beside it is fit.
+const GYRO_STATUSES: [u8; 6] = [0x40, 0x00, 0xC8, 0x12, 0x18, 0x10];
+
+/// Calls of feed for the judgements of 02, 2.3: statuses of three groups, with
+/// others of their temperatures and AUX; of the gyro only; of the gyro beside
+/// the inclinometer, and beside the accelerometer; then calls that hand out no
+/// datagram.
+pub fn judged_feeds() -> Vec<Call> {
+    let mut calls = Vec::new();
+    let mut add = |setup: Setup, statuses: &[[u8; 3]]| {
+        let (feeds, _) = feeds_of_stream(fresh(setup), &stream_of(&setup, statuses));
+        calls.extend(feeds);
+    };
+    add(MIXED_UNITS, &JUDGED_STATUSES);
+    add(EXAMPLE, &GYRO_STATUSES.map(|status| [status, 0, 0]));
+    let of_two_groups = |identifier| Setup {
+        identifier,
+        ..EXAMPLE
+    };
+    add(of_two_groups(0x92), &[[0x80, 0x00, 0x1A]]);
+    add(of_two_groups(0x91), &[[0x19, 0x40, 0x00]]);
+    calls.extend(feeds_without_datagram());
+    calls
+}
+
+/// All but the last byte of a datagram in which nothing is fit; behind that a
+/// piece that 11 refuses, or the last byte; then no byte.
+fn feeds_without_datagram() -> Vec<Call> {
+    let bytes = stream_of(&MIXED_UNITS, &[[0xFF; 3]]);
+    let (front, last) = bytes.split_at(bytes.len() - 1);
+    let (mut calls, held) = feeds_of_stream(fresh(MIXED_UNITS), front);
+    calls.push(Call::Feed(Box::new(held), vec![0xFF; PIECE_LIMIT + 1]));
+    let (completing, after) = feeds_of_stream(held, last);
+    calls.extend(completing);
+    calls.push(Call::Feed(Box::new(after), Vec::new()));
+    calls
+}
+
+/// Datagrams with these statuses of their groups. Temperatures and AUX have
+/// others, where they are carried.
+fn stream_of(setup: &Setup, statuses: &[[u8; 3]]) -> Vec<u8> {
+    let places = statuses.iter().zip(0..);
+    places
+        .flat_map(|(&statuses, place)| {
+            let mut fields = moved(place, statuses);
+            fields.temperature_statuses = [0x81, 0x12, 0x4C];
+            fields.auxiliary_status = 0x09;
+            encode(setup, &fields)
+        })
+        .collect()
+}
+
+/// A stream in calls of feed, as many bytes of it as a datagram has in each, with
+/// the session that the call before it leaves; and the session behind the last.
+fn feeds_of_stream(first: Session, bytes: &[u8]) -> (Vec<Call>, Session) {
+    let length = datagram_length(&first.setup).expect("a good setup");
+    let mut calls = Vec::new();
+    let mut session = first;
+    for piece in bytes.chunks(length) {
+        calls.push(Call::Feed(Box::new(session), piece.to_vec()));
+        session = feed(&session, piece).session;
+    }
+    (calls, session)
 }

@@ -2,7 +2,7 @@
 
 use crate::datagram::{
     decode, double_of, flagged_channels, folded_difference, gap_between, group_values,
-    is_acceptable, is_fit, Datagram, Gap, Total,
+    is_acceptable, is_fit, judgement_of, Datagram, Gap, Total,
 };
 use crate::layout::{datagram_length, layout_of};
 use crate::setup::{judge_setup, Setup, INTEGRATED};
@@ -74,7 +74,7 @@ pub struct Answer {
     pub taken: usize,
     /// The new session; after a refusal the session as given.
     pub session: Session,
-    /// Zeros and unit 0 where no datagram is handed out.
+    /// Zeros, unit 0 and every axis fit where no datagram is handed out.
     pub datagram: Datagram,
 }
 
@@ -224,7 +224,8 @@ fn take_byte(session: &mut Session, byte: u8) -> Option<Vec<u8>> {
     found
 }
 
-/// Hands out an acceptable datagram: gap, values and totals by the session.
+/// Hands out an acceptable datagram: gap, values, judgements and totals by the
+/// session. The status of a group that isn't carried is 0, so its axes are fit.
 fn hand_out(session: &mut Session, bytes: &[u8]) -> Datagram {
     let setup = session.setup;
     let fields = decode(&setup, bytes);
@@ -248,6 +249,8 @@ fn hand_out(session: &mut Session, bytes: &[u8]) -> Datagram {
             fields.readings[group],
         );
         datagram.flagged_channels[group] = flagged_channels(fields.statuses[group]);
+        datagram.judgements[group] =
+            [0, 1, 2].map(|axis| judgement_of(fields.statuses[group], axis));
         if keeps_totals(&setup, group) {
             for axis in 0..3 {
                 let kept = &mut session.axes[group][axis];

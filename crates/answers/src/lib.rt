@@ -1,7 +1,7 @@
-// A datagram as it comes back with an answer, and what stands in its place where none is handed out (01, The scan; Status, doubles, gaps; Totals).
+// A datagram as it comes back with an answer, and what stands in its place where none is handed out (01, The scan; Status, doubles, gaps; Totals; 02, 2.3).
 ghost use mathlib.Core.Path.{_≡_};
 ghost use Rattle.motion.specs.Totals.{noAxes, totalsOf};
-ghost use Rattle.feeding.specs.Feed.{datagramWith, noFields, noValues, noDoubles, noDatagram};
+ghost use Rattle.feeding.specs.Feed.{datagramWith, noFields, allFit, noValues, noDoubles, noDatagram};
 ghost use Rattle.feeding.specs.CallParts.{contentsWith};
 use doubles::GroupValues;
 use doubles::TotalDoubles;
@@ -10,7 +10,10 @@ use feeding::Datagram;
 use gaps::Datagrams;
 use gaps::Gap;
 use motion::Axes;
+use motion::GroupJudgements;
 use motion::GroupTotals;
+use motion::Judgement;
+use motion::Judgements;
 use motion::Total;
 use motion::Totals;
 use setup::Sensor;
@@ -32,6 +35,7 @@ pub fn datagram_of(
         motion::flagged_channels(statuses[1]),
         motion::flagged_channels(statuses[2]),
     ];
+    let judgements = motion::judgements_of(statuses);
     let units = sensor.units;
     let shifts = sensor.shifts;
     let values = doubles::group_values(units, shifts, readings);
@@ -46,6 +50,7 @@ pub fn datagram_of(
         inclinometer: inclinometer,
         fields: fields,
         flagged: flagged,
+        judgements: judgements,
         values: values,
         gap: gap,
         totals: totals,
@@ -67,6 +72,23 @@ fn no_fields() -> Fields
         aux_status: 0,
         counter: 0,
         latency: 0,
+    }
+}
+
+// The judgements there: fit for every axis.
+fn all_fit() -> Judgements
+    ensures { λ r. ⌜ r ≡ allFit ⌝ }
+{
+    let fit = Judgement::Fit;
+    let group = GroupJudgements {
+        x: fit,
+        y: fit,
+        z: fit,
+    };
+    Judgements {
+        gyro: group,
+        accelerometer: group,
+        inclinometer: group,
     }
 }
 
@@ -119,6 +141,7 @@ pub fn no_datagram() -> Datagram
     ensures { λ r. ⌜ r ≡ noDatagram ⌝ }
 {
     let fields = no_fields();
+    let judgements = all_fit();
     let none = no_values();
     let values = GroupValues {
         gyro: none,
@@ -134,6 +157,7 @@ pub fn no_datagram() -> Datagram
         inclinometer: [0; 3],
         fields: fields,
         flagged: [0; 3],
+        judgements: judgements,
         values: values,
         gap: gap,
         totals: totals,

@@ -5,10 +5,13 @@
 //     accepts A I T HEX      whether (1) or not (0) bytes are an acceptable datagram of identifier I with termination T
 //     decodes I READINGS STATUSES COUNTER LATENCY HEX
 //     fit STATUS XYZ COUNT   which axes a status leaves fit (1), and how many channels it flags
+//     judged STATUS XYZ      the judgement of each axis by a status: 0 fit, 1 integrity, 2 start-up, 3 error, 4 overload
 //     gap RATE FIRST PREVIOUS COUNTER MISSED     the datagrams missed, or `?`
 use gaps::Gap;
 use libc::STDIN_FILENO;
 use libc::STDOUT_FILENO;
+use motion::GroupJudgements;
+use motion::Judgement;
 use setup::Described;
 use setup::Listing;
 use setup::Rate;
@@ -223,6 +226,38 @@ fn fit_case(given: &[u8]) -> bool {
         & (motion::flagged_channels(status) == value_at(given, 3) as u32)
 }
 
+// The place of a judgement in the order of 02, 2.3.
+fn place_of(judgement: Judgement) -> u32
+    ensures { λ r. ⌜ r ≤ 4 ⌝ }
+{
+    match judgement {
+        Judgement::Fit => 0,
+        Judgement::Integrity => 1,
+        Judgement::StartUp => 2,
+        Judgement::Error => 3,
+        Judgement::Overload => 4,
+    }
+}
+
+fn same_judgements(group: GroupJudgements, digits: u32) -> bool {
+    let x = group.x;
+    let y = group.y;
+    let z = group.z;
+    place_of(x) * 100 + place_of(y) * 10 + place_of(z) == digits
+}
+
+fn judged_case(given: &[u8]) -> bool {
+    let status = (value_at(given, 1) % 256) as u8;
+    let digits = value_at(given, 2) as u32;
+    let judgements = motion::judgements_of([status; 3]);
+    let gyro = judgements.gyro;
+    let accelerometer = judgements.accelerometer;
+    let inclinometer = judgements.inclinometer;
+    same_judgements(gyro, digits)
+        & same_judgements(accelerometer, digits)
+        & same_judgements(inclinometer, digits)
+}
+
 fn same_gap(given: &[u8], rate: Rate) -> bool {
     let previous = (value_at(given, 3) % 256) as u8;
     let counter = (value_at(given, 4) % 256) as u8;
@@ -259,6 +294,7 @@ fn passes(given: &[u8]) -> bool {
         b'a' => accepts_case(given),
         b'd' => decodes_case(given),
         b'f' => fit_case(given),
+        b'j' => judged_case(given),
         b'g' => gap_case(given),
         _ => false,
     }

@@ -82,5 +82,8 @@ module _ (u : Setup) where
           readings = c .readings;
           fields = c .fields;
           flags = c .flags;
+          gyro-judged = c .gyro-judged;
+          accelerometer-judged = c .accelerometer-judged;
+          inclinometer-judged = c .inclinometer-judged;
           gap = c .gap ∙ ap (λ (b : Bool). missedAt (u .rate) b (before .previous) (now .counter)) first-at ∙ gap-at;
         })

@@ -1,4 +1,4 @@
--- What comes back with a datagram, of what a session keeps: its own fields, what was missed, the totals of the axes, exact doubles.
+-- What comes back with a datagram, of what a session keeps: its own fields, judgements, what was missed, the totals of the axes, exact doubles.
 -- Assumes nothing.
 use Prim.Native.Nat.{ℕ, _^_, _≤_, _<_}
 use mathlib.Core.Path.{_≡_, refl, sym, ap, _∙_, subst}
@@ -23,6 +23,7 @@ use Rattle.motion.specs.Totals.{noAxis, axisAt, totalOf, totalsOf, totalAt}
 use Rattle.motion.specs.declared.Axis.{Axis}
 use Rattle.motion.specs.declared.Total.{Total}
 use Rattle.motion.proofs.NineAxes.{each-axis, total-at}
+use Rattle.motion.proofs.Judged.{judged-gyro, judged-accelerometer, judged-inclinometer}
 use Rattle.doubles.specs.Doubles.{negative, plusZero, unitNumberIn, doublesIn, shiftIn, groupValues, valuesFor, totalDouble, doubleAt}
 use Rattle.doubles.specs.declared.Values.{Values}
 use Rattle.doubles.proofs.Doubles.{double-at}
@@ -52,6 +53,9 @@ module _ (u : Setup) (ok : rulingOn u ≡ Accepted) (h : History) (d : List ℕ)
         readings = unfold datagramWith fieldsOf in refl;
         fields = unfold datagramWith in refl;
         flags = unfold datagramWith in refl;
+        gyro-judged = unfold datagramWith in judged-gyro (fieldsOf (u .identifier) d .statuses);
+        accelerometer-judged = unfold datagramWith in judged-accelerometer (fieldsOf (u .identifier) d .statuses);
+        inclinometer-judged = unfold datagramWith in judged-inclinometer (fieldsOf (u .identifier) d .statuses);
         gap = unfold datagramWith in missed-with (missedAt (u .rate) (awaitsFirst h) (h .previous) (fieldsOf (u .identifier) d .counter));
       })
 
@@ -104,6 +108,7 @@ no-datagram-zeros =
       aux = (refl, refl);
       counter = (refl, refl);
       flags = refl;
+      judgements = refl;
       gap = refl;
       unit = each (λ group. unitNumberIn (valuesFor (noDatagram .values) group) ≡ 0) refl refl refl;
       value =

@@ -1,4 +1,4 @@
--- 01, The scan; Status, doubles, gaps; Totals; What is turned down, 10 to 12: what a call of feed answers.
+-- 01, The scan; Status, doubles, gaps; Totals; What is turned down, 10 to 12; 02, 2.3: what a call of feed answers.
 use Prim.Native.Nat.{ℕ, _*_}
 use mathlib.Core.Bool.{Bool, _&&_}
 use mathlib.Core.List.{List, [], _∷_, map}
@@ -18,8 +18,12 @@ use Rattle.gaps.specs.Gaps.{datagrams, gapBetween}
 use Rattle.gaps.specs.declared.Gap.{Gap}
 use Rattle.gaps.specs.declared.Gap.the-variants.{Missed}
 use Rattle.motion.specs.Status.{flagged}
+use Rattle.motion.specs.Judgements.{judgementsOf}
 use Rattle.motion.specs.Totals.{noAxes, keptBy, totalsOf}
 use Rattle.motion.specs.declared.Axes.{Axes}
+use Rattle.motion.specs.declared.Judgement.the-variants.{Fit}
+use Rattle.motion.specs.declared.GroupJudgements.{GroupJudgements}
+use Rattle.motion.specs.declared.Judgements.{Judgements}
 use Rattle.doubles.specs.Doubles.{plusZero, groupValues, totalDoubles}
 use Rattle.doubles.specs.declared.Values.{Values}
 use Rattle.doubles.specs.declared.Values.the-variants.{Instantaneous}
@@ -52,6 +56,7 @@ module _ (s : Sensor) where
         inclinometer = getD (c .readings) 2 [];
         fields = besidesReadings c;
         flagged = map flagged (c .statuses);
+        judgements = judgementsOf (c .statuses);
         values = groupValues (s .units) (s .shifts) (c .readings);
         gap = gap;
         totals = totalsOf a;
@@ -79,7 +84,7 @@ module _ (u : Setup) where
   consumer =
       record { start = noHistory; awaitsFirst = awaitsFirst; step = historyAfter (sensorOf u); tell = tell (sensorOf u); admits = historyRight }
 
--- ---- where no datagram is handed out: zeros and unit 0
+-- ---- where no datagram is handed out: zeros, unit 0, every axis fit
 
 abbrev pub noReadings : List ℤ
 noReadings = pos 0 ∷ pos 0 ∷ pos 0 ∷ []
@@ -97,6 +102,12 @@ noFields =
       counter = 0;
       latency = 0;
     }
+
+abbrev pub allFit : Judgements
+allFit = record { gyro = fits; accelerometer = fits; inclinometer = fits }
+  where
+    fits : GroupJudgements
+    fits = record { x = Fit; y = Fit; z = Fit }
 
 abbrev pub noValues : Values
 noValues = Instantaneous plusZero plusZero plusZero
@@ -123,6 +134,7 @@ noDatagram =
       inclinometer = noReadings;
       fields = noFields;
       flagged = 0 ∷ 0 ∷ 0 ∷ [];
+      judgements = allFit;
       values = record { gyro = noValues; accelerometer = noValues; inclinometer = noValues };
       gap = Missed (datagrams 0);
       totals = totalsOf noAxes;

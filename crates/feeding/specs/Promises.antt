@@ -16,6 +16,9 @@ use Rattle.setup.specs.declared.Setup.{Setup}
 use Rattle.wire.specs.Fields.{fieldsOf, besidesReadings}
 use Rattle.gaps.specs.Gaps.{datagrams, missedIn, missedAt}
 use Rattle.motion.specs.Status.{fit, flagged}
+use Rattle.motion.specs.Judgements.{JudgedBy}
+use Rattle.motion.specs.declared.Judgement.the-variants.{Fit}
+use Rattle.motion.specs.declared.GroupJudgements.{GroupJudgements}
 use Rattle.motion.specs.Totals.{noAxis, Sighting, axisStep, keeps, axisAt, totalAt, fitReadings, fitBefore, readingOf, Close, totalOf, after}
 use Rattle.doubles.specs.Doubles.{negative, plusZero, unitNumberIn, doublesIn, valuesFor, doubleAt}
 use Rattle.scan.specs.Scan.{scan, Undecided}
@@ -80,12 +83,15 @@ TotalExact u group axis o =
 
 -- ---- what comes back with a datagram
 
--- in the answer o, of the datagram d: its fields, how many channels its statuses flag, and what was missed between it and the one before, whose
--- counter was `previous`; first: whether it counts as a first one
+-- in the answer o, of the datagram d: its fields, how many channels its statuses flag, the judgements of each group by its status byte, and what was
+-- missed between it and the one before, whose counter was `previous`; first: whether it counts as a first one
 pub record Contained (u : Setup) (first : Bool) (previous : ℕ) (d : List ℕ) (o : Datagram) : Type 0 where
   pub readings : o .gyro ∷ o .accelerometer ∷ o .inclinometer ∷ [] ≡ fieldsOf (u .identifier) d .readings
   pub fields : o .fields ≡ besidesReadings (fieldsOf (u .identifier) d)
   pub flags : o .flagged ≡ map flagged (fieldsOf (u .identifier) d .statuses)
+  pub gyro-judged : JudgedBy (getD (fieldsOf (u .identifier) d .statuses) 0 0) (o .judgements .gyro)
+  pub accelerometer-judged : JudgedBy (getD (fieldsOf (u .identifier) d .statuses) 1 0) (o .judgements .accelerometer)
+  pub inclinometer-judged : JudgedBy (getD (fieldsOf (u .identifier) d .statuses) 2 0) (o .judgements .inclinometer)
   pub gap : missedIn (o .gap) ≡ missedAt (u .rate) first previous (fieldsOf (u .identifier) d .counter)
 
 -- of an axis of a group: the group's unit, and each double its reading, or its total, over 2 ^ shift, without any rounding
@@ -96,7 +102,7 @@ pub record Exact (u : Setup) (d : List ℕ) (o : Datagram) (group axis : ℕ) : 
       (natAbs (sighting u group axis d .reading)) (2 ^ shiftOf u group)
   pub double : TotalExact u group axis o
 
--- where no datagram is handed out: zeros and unit 0 in its place
+-- where no datagram is handed out: zeros and unit 0 in its place, every axis fit
 pub record Zeros (o : Datagram) : Type 0 where
   pub readings : o .gyro ∷ o .accelerometer ∷ o .inclinometer ∷ [] ≡ replicate 3 (replicate 3 (pos 0))
   pub statuses : o .fields .statuses ≡ replicate 3 0
@@ -107,6 +113,9 @@ pub record Zeros (o : Datagram) : Type 0 where
   pub aux : (o .fields .aux ≡ pos 0) × (o .fields .«aux_status» ≡ 0)
   pub counter : (o .fields .counter ≡ 0) × (o .fields .latency ≡ 0)
   pub flags : o .flagged ≡ replicate 3 0
+  pub judgements :
+      let fits : GroupJudgements = record { x = Fit; y = Fit; z = Fit } in
+      o .judgements ≡ record { gyro = fits; accelerometer = fits; inclinometer = fits }
   pub gap : missedIn (o .gap) ≡ some (datagrams 0)
   pub unit : (group : ℕ) → group < 3 → unitNumberIn (valuesFor (o .values) group) ≡ 0
   pub value : (group axis : ℕ) → group < 3 → axis < 3 → getD (doublesIn (valuesFor (o .values) group)) axis nan ≡ plusZero
@@ -138,7 +147,7 @@ pub record CallHands (s : Session) (p : List ℕ) (r : Reply) : Type 0 where
   pub acceptable : isDatagram (s .setup) found ≡ true
   pub none-begins : (k : ℕ) → k < length over → Begins (isDatagram (s .setup)) (drop k (heldBytes s ++ p)) → ⊥
   pub decided : (k : ℕ) → k < length over → candidateOf (s .setup) (getD (heldBytes s ++ p) k 0) ≤ length (heldBytes s ++ p) - k
-  -- its own fields, what was missed since the datagram before it, and exact doubles
+  -- its own fields and judgements, what was missed since the datagram before it, and exact doubles
   pub contained : Contained (s .setup) (awaitsFirst (s .history)) (s .history .previous) found (r .datagram)
   pub exact : (group axis : ℕ) → group < 3 → axis < 3 → Exact (s .setup) found (r .datagram) group axis
   -- the session counts it and keeps its counter
@@ -175,7 +184,7 @@ pub record EveryCall : Type 0 where
   pub hands :
       (s : Session) → PassesTen s → (p : List ℕ) → call s p .answer ≡ datagram (feedOf s p .datagram) → CallHands s p (feedOf s p)
   pub waits : (s : Session) → PassesTen s → (p : List ℕ) → call s p .answer ≡ waiting → CallWaits s p (feedOf s p)
-  -- in whose answer, and in a refusal's, that place holds zeros and unit 0
+  -- in whose answer, and in a refusal's, that place holds zeros, unit 0 and fit
   pub zeros : Zeros noDatagram
   -- what holds only while all datagrams have one length
   pub one-length : OneLength
@@ -209,7 +218,7 @@ pub record Demand2 (u : Setup) : Type 0 where
   -- these are handed out, no more and no fewer
   pub handed-out :
       {ps : List (List ℕ)} {os : List Datagram} {rs : List Report} {t : Session} → FedInTurn u ps os rs t → HandsOut u ps os
-  -- its own fields, what was missed since the one before it, and exact doubles
+  -- its own fields and judgements, what was missed since the one before it, and exact doubles
   pub contained :
       {ps : List (List ℕ)} {os : List Datagram} {rs : List Report} {t : Session} → FedInTurn u ps os rs t
       → (es : List (List ℕ)) → Among (isDatagram u) (streamOf u ps) es

@@ -1,7 +1,8 @@
-// What feeding a session gives back: no code (01, The scan; Status, doubles, gaps; Totals).
+// What feeding a session gives back: no code (01, The scan; Status, doubles, gaps; Totals; 02, 2.3).
 use doubles::GroupValues;
 use doubles::TotalDoubles;
 use gaps::Gap;
+use motion::Judgements;
 use motion::Totals;
 use session::Session;
 use wire::Fields;
@@ -16,6 +17,8 @@ pub struct Datagram {
     pub fields: Fields,
     // how many channels the status byte of each group flags
     pub flagged: [u32; 3],
+    // how each axis is judged by its group's status byte
+    pub judgements: Judgements,
     pub values: GroupValues,
     pub gap: Gap,
     pub totals: Totals,
@@ -29,7 +32,7 @@ pub enum Answer {
     Refused(u8),
 }
 
-// What a call tells: which happened, how many bytes it took, the new session, and the datagram, zeros where none is handed out.
+// What a call tells: which happened, how many bytes it took, the new session, and the datagram, zeros and fit where none is handed out.
 pub struct Reply {
     pub answer: Answer,
     pub taken: usize,

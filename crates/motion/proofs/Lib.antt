@@ -3,4 +3,5 @@ pub mod Status
 pub mod TrueChange
 pub mod Bounds
 pub mod NineAxes
+pub mod Judged
 pub mod AcceptedSetup

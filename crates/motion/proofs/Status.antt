@@ -1,11 +1,11 @@
 -- Laws of fitness: what each bit of a status byte does to an axis (01, Status; 02, 2.2). Assumes nothing.
 use Prim.Native.Nat.{ℕ, zero, suc, _<_, _+_}
 use mathlib.Core.Bool.{Bool, true, false, not, _&&_, _||_, cond}
-use mathlib.Core.Path.{_≡_, refl, ap}
+use mathlib.Core.Path.{_≡_, refl, sym, ap, _∙_}
 use native.Mathlib.Omega.{arith}
 use lib.Dec.{eqb}
-use borrow.Author.Tests.{eq-eqb, ne-eqb}
-use Rattle.integers.proofs.Booleans.{and-true, or-true, three-any, three-none}
+use borrow.Author.Tests.{eq-eqb, ne-eqb, not-false}
+use Rattle.integers.proofs.Booleans.{and-split, and-true, or-true, three-any, three-none}
 use Rattle.motion.specs.Status.{bit, isSet, noneFlagged, named, unfit, fit, flagged}
 
 -- ---- which channels are flagged
@@ -66,3 +66,11 @@ module _ (status axis : ℕ) where
   pub fit-clear : (isSet status 7 || isSet status 6) ≡ false → (isSet status 3 || isSet status 4) ≡ false → fit status axis ≡ true
   unfolding unfit
   fit-clear e n = rw (e, n)
+
+  -- an axis that is unfit without integrity and start-up is so by measurement error or overload, which names it
+  pub unfit-by-name :
+      (isSet status 7 || isSet status 6) ≡ false → fit status axis ≡ false → ((isSet status 3 || isSet status 4) ≡ true) × (named status axis ≡ true)
+  unfolding unfit
+  unfit-by-name e u =
+      and-split (isSet status 3 || isSet status 4) (named status axis)
+      (sym (ap (λ (b : Bool). b || ((isSet status 3 || isSet status 4) && named status axis)) e) ∙ not-false (unfit status axis) u)

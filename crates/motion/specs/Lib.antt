@@ -1,3 +1,4 @@
--- The rules of what the fields of a datagram mean: status and fitness, totals.
+-- The rules of what the fields of a datagram mean: status, fitness and judgement, totals.
 pub mod Status
 pub mod Totals
+pub mod Judgements

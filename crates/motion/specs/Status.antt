@@ -15,9 +15,13 @@ isSet status k = eqb (bit status k) 1
 abbrev pub noneFlagged : ℕ → Bool
 noneFlagged status = not (isSet status 0 || isSet status 1 || isSet status 2)
 
--- which axes (X 0, Y 1, Z 2) bit 3 or 4, if it is set, names: those whose bit is set, and all three where bits 0 to 2 are all clear (02, 2.2)
+-- whether bits 3 and 4, where they are set, name an axis (X 0, Y 1, Z 2): its own bit is set, or bits 0 to 2 are all clear (02, 2.2)
 abbrev pub named : ℕ → ℕ → Bool
 named status axis = isSet status axis || noneFlagged status
+
+-- of X, Y and Z
+abbrev pub namedAxes : ℕ → List Bool
+namedAxes status = named status 0 ∷ named status 1 ∷ named status 2 ∷ []
 
 -- an axis is unfit if bit 7 or 6 is set, or if bit 3 or 4 is set and names it
 unfoldable pub unfit : ℕ → ℕ → Bool

@@ -26,7 +26,7 @@ use Rattle.motion.specs.declared.Totals.{Totals}
 
 -- ---- one axis
 
--- one datagram as an axis sees it: its group's status byte judged for the axis, and its reading
+-- one datagram as an axis sees it: whether its group's status byte leaves the axis fit, and its reading
 pub record Sighting : Type 0 where
   pub fit : Bool
   pub reading : ℤ

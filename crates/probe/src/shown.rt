@@ -11,7 +11,10 @@ use made_datagram::Made;
 use motion::Axes;
 use motion::Axis;
 use motion::GroupAxes;
+use motion::GroupJudgements;
 use motion::GroupTotals;
+use motion::Judgement;
+use motion::Judgements;
 use motion::Total;
 use motion::Totals;
 use rehearsal::Rehearsed;
@@ -105,6 +108,31 @@ fn put_statuses(statuses: [u8; 3]) {
 
 fn put_flagged(flagged: [u32; 3]) {
     put_three(flagged[0] as u64, flagged[1] as u64, flagged[2] as u64);
+}
+
+fn put_judgement(judgement: Judgement) {
+    match judgement {
+        Judgement::Fit => put_text(b" fit"),
+        Judgement::Integrity => put_text(b" integrity"),
+        Judgement::StartUp => put_text(b" start-up"),
+        Judgement::Error => put_text(b" error"),
+        Judgement::Overload => put_text(b" overload"),
+    }
+}
+
+fn put_group_judgements(judgements: GroupJudgements) {
+    let x = judgements.x;
+    let y = judgements.y;
+    let z = judgements.z;
+    put_judgement(x);
+    put_judgement(y);
+    put_judgement(z);
+}
+
+fn put_judgements(judgements: Judgements) {
+    put_group_judgements(judgements.gyro);
+    put_group_judgements(judgements.accelerometer);
+    put_group_judgements(judgements.inclinometer);
 }
 
 fn put_row(row: [i32; 3]) {
@@ -253,6 +281,7 @@ pub(crate) fn put_datagram(datagram: Datagram) {
     put_readings(datagram);
     put_fields(datagram.fields);
     put_flagged(flagged);
+    put_judgements(datagram.judgements);
     put_group_values(datagram.values);
     put_gap(gap);
     put_totals(datagram.totals);

@@ -42,7 +42,9 @@ use Rattle.made_datagram.proofs.RoundTrips.{made-bytes, made-acceptable}
 use Rattle.made_datagram.proofs.WorkedExample.{worked}
 use Rattle.gaps.proofs.Gaps.{elapsed-back, elapsed-range, missed-steps, off-step, first-none, trigger-none}
 use Rattle.motion.proofs.AcceptedSetup.{integrated-kept, other-not-kept}
+use Rattle.motion.specs.Judgements.{judgementOf}
 use Rattle.motion.proofs.Status.{unfit-all, unfit-named, unfit-none-flagged, fit-unnamed, fit-clear}
+use Rattle.motion.proofs.Judged.{judged-fit, judged-integrity, judged-start-up, judged-error, judged-overload, judged-applies, judged-cases, judged-zero}
 use Rattle.doubles.proofs.Starred.{starred}
 use Rattle.shown_line.proofs.Thirteen.{inside-passes, passes-inside}
 use Rattle.search.specs.Search.{isDatagram}
@@ -205,6 +207,14 @@ paper-rules =
       unfit-none-flagged = unfit-none-flagged;
       fit-unnamed = fit-unnamed;
       fit-clear = fit-clear;
+      judged-fit = judged-fit;
+      judged-integrity = judged-integrity;
+      judged-start-up = judged-start-up;
+      judged-error = judged-error;
+      judged-overload = judged-overload;
+      judged-applies = judged-applies;
+      judged-cases = judged-cases;
+      judged-absent = λ i d g h none axis. ap (λ (status : ℕ). judgementOf status axis) (absent-group i d g h none .1) ∙ judged-zero axis;
       elapsed-samples = λ previous counter p c. let r = elapsed-range previous counter in (r .0, r .1, elapsed-back previous counter p c);
       missed = λ rate previous counter n h k q. missed-steps rate previous counter h n k q;
       off-step = λ rate previous counter h n. off-step rate previous counter h n;

@@ -1,5 +1,5 @@
 -- What the rules say that the other promises are stated by, as facts: so that a rule that is wrong in its definition and in the code alike is shut out
--- here (01, The setup line; Layout by identifier; The scan; Status, doubles, gaps; Totals; The text line; Bench cases; 02, 2.1, 2.2).
+-- here (01, The setup line; Layout by identifier; The scan; Status, doubles, gaps; Totals; The text line; Bench cases; 02, 2.1 to 2.3).
 use Prim.Native.Nat.{ℕ, suc, _+_, _*_, _/_, _%_, _^_, _≤_, _<_}
 use mathlib.Core.Bool.{Bool, true, false, _||_, cond}
 use mathlib.Core.List.{List, [], _∷_, _++_}
@@ -25,6 +25,8 @@ use Rattle.made_datagram.specs.Worked.{Worked}
 use Rattle.made_datagram.specs.declared.Values.{Values}
 use Rattle.gaps.specs.Gaps.{datagrams, elapsed, missedAt}
 use Rattle.motion.specs.Status.{isSet, fit}
+use Rattle.motion.specs.Judgements.{applies, judgementOf, isFit, JudgedCases}
+use Rattle.motion.specs.declared.Judgement.the-variants.{Fit, Integrity, StartUp, Error, Overload}
 use Rattle.motion.specs.Totals.{keeps}
 use Rattle.motion.specs.declared.Totals.{Totals}
 use Rattle.doubles.specs.Starred.{Starred}
@@ -76,6 +78,23 @@ pub record PaperRules : Type 0 where
       (status axis : ℕ) → (isSet status 7 || isSet status 6) ≡ false → isSet status axis ≡ false
       → (other : ℕ) → other < 3 → isSet status other ≡ true → fit status axis ≡ true
   pub fit-clear : (status axis : ℕ) → (isSet status 7 || isSet status 6) ≡ false → (isSet status 3 || isSet status 4) ≡ false → fit status axis ≡ true
+  -- the judgement of an axis is fit exactly if the axis is fit; of an unfit one it is the first that applies: integrity by bit 7, start-up by bit 6, error
+  -- by bit 3, else overload, as bits 3 and 4 name the same axes
+  pub judged-fit : (status axis : ℕ) → isFit (judgementOf status axis) ≡ fit status axis
+  pub judged-integrity : (status axis : ℕ) → isSet status 7 ≡ true → judgementOf status axis ≡ Integrity
+  pub judged-start-up : (status axis : ℕ) → isSet status 7 ≡ false → isSet status 6 ≡ true → judgementOf status axis ≡ StartUp
+  pub judged-error :
+      (status axis : ℕ) → (isSet status 7 || isSet status 6) ≡ false → isSet status 3 ≡ true → fit status axis ≡ false
+      → judgementOf status axis ≡ Error
+  pub judged-overload :
+      (status axis : ℕ) → (isSet status 7 || isSet status 6) ≡ false → isSet status 3 ≡ false → fit status axis ≡ false
+      → judgementOf status axis ≡ Overload
+  -- what is named applies; cases in numbers; the axes of a group that the identifier doesn't carry are fit
+  pub judged-applies : (status axis : ℕ) → applies status axis (judgementOf status axis) ≡ true
+  pub judged-cases : JudgedCases
+  pub judged-absent :
+      (i : ℕ) (d : List ℕ) (g : ℕ) → g < 3 → carries (partsAt i) (getD groups g gyro) ≡ false
+      → (axis : ℕ) → judgementOf (getD (fieldsOf i d .statuses) g 0) axis ≡ Fit
   -- d, from 1 to 256, is the new counter minus the previous modulo 256
   pub elapsed-samples :
       (previous counter : ℕ) → previous < 256 → counter < 256

@@ -6,14 +6,16 @@
 use std::env;
 use std::io::{self, Read};
 
-use stim_reference::call::{answer_text, Call};
+use stim_reference::call::{answer_text, feed_text, Call};
 use stim_reference::check::{check_of, check_unpadded};
+use stim_reference::datagram::Judgement::{self, Error, Fit, Integrity, Overload, StartUp};
 use stim_reference::datagram::{
     decode, double_of, encode, flagged_channels, folded_difference, gap_between, group_values,
-    is_acceptable, is_fit, reading_of, Datagram, Fields, Gap, GroupValues,
+    is_acceptable, is_fit, judgement_of, reading_of, Datagram, Fields, Gap, GroupValues,
 };
 use stim_reference::fast;
 use stim_reference::generate::{good_setup, input_of_case, setup_of_case, stream};
+use stim_reference::generate_call;
 use stim_reference::generate_make;
 use stim_reference::layout::{datagram_length, layout_of, IDENTIFIERS};
 use stim_reference::line::{write_line, Line};
@@ -24,7 +26,8 @@ use stim_reference::program::{output_for, split_input};
 use stim_reference::random::Random;
 use stim_reference::rehearsal::{read_number, read_rehearsal_line, Fault, LONGEST_REHEARSAL_LINE};
 use stim_reference::session::{
-    add_fit_reading, feed, judge_session, keeps_totals, open_session, Axis, Outcome, Session,
+    add_fit_reading, feed, judge_session, keeps_totals, open_session, Answer, Axis, Outcome,
+    Session,
 };
 use stim_reference::setup::{judge_setup, read_setup_line, setup_line, Setup};
 use stim_reference::whole_piece::{lines_of, receive_lines, ROOM_FOR_LINES};
@@ -55,9 +58,13 @@ fn main() {
     feeding_refusals();
     line_refusals();
     fitness();
+    judgements();
+    groups_not_carried();
     listed_cases();
     listed_errors();
     every_listed_status();
+    listed_judgements();
+    every_listed_judgement();
     whole_pieces();
     made_example();
     made_round_trips();
@@ -67,6 +74,8 @@ fn main() {
     wrong_makers();
     wrong_line_readers();
     wrong_statuses();
+    wrong_judgements();
+    generated_judgements();
     fast_decimals();
     sessions_along_streams();
     plain_against_fast(seed, count);
@@ -231,6 +240,88 @@ fn fitness() {
         let fit = (0..=255).filter(|&status| is_fit(status, axis)).count();
         assert_eq!(fit, 16 + 24 - 6);
     }
+}
+
+/// 02, 2.3: the judgements of X, Y and Z by a status; then, by every status, that
+/// they are fit where the rule of fitness says so, and how often each is named.
+fn judgements() {
+    let cases = [
+        (0x00, [Fit, Fit, Fit]),
+        (0x07, [Fit, Fit, Fit]),
+        (0x20, [Fit, Fit, Fit]),
+        (0x27, [Fit, Fit, Fit]),
+        (0x08, [Error, Error, Error]),
+        (0x10, [Overload, Overload, Overload]),
+        (0x18, [Error, Error, Error]),
+        (0x09, [Error, Fit, Fit]),
+        (0x0A, [Fit, Error, Fit]),
+        (0x0C, [Fit, Fit, Error]),
+        (0x11, [Overload, Fit, Fit]),
+        (0x12, [Fit, Overload, Fit]),
+        (0x14, [Fit, Fit, Overload]),
+        (0x15, [Overload, Fit, Overload]),
+        (0x1C, [Fit, Fit, Error]),
+        (0x1B, [Error, Error, Fit]),
+        (0x1F, [Error, Error, Error]),
+        (0x28, [Error, Error, Error]),
+        (0x30, [Overload, Overload, Overload]),
+        (0x40, [StartUp, StartUp, StartUp]),
+        (0x47, [StartUp, StartUp, StartUp]),
+        (0x48, [StartUp, StartUp, StartUp]),
+        (0x51, [StartUp, StartUp, StartUp]),
+        (0x80, [Integrity, Integrity, Integrity]),
+        (0x9A, [Integrity, Integrity, Integrity]),
+        (0xC0, [Integrity, Integrity, Integrity]),
+        (0xC8, [Integrity, Integrity, Integrity]),
+        (0xD7, [Integrity, Integrity, Integrity]),
+        (0xFF, [Integrity, Integrity, Integrity]),
+    ];
+    for (status, judged) in cases {
+        let judgements = [0, 1, 2].map(|axis| judgement_of(status, axis));
+        assert_eq!(judgements, judged, "status {status}");
+    }
+    // Of 256 statuses 128 have bit 7, 64 others bit 6; of the 64 left, 32 have bit
+    // 3, 16 others bit 4, and 5 in 8 of either name an axis: 20 and 10. 34 are fit.
+    let mut times = [0; 5];
+    for axis in 0..3 {
+        for status in 0..=255 {
+            let judgement = judgement_of(status, axis);
+            assert_eq!(judgement == Fit, is_fit(status, axis), "status {status}");
+            times[judgement as usize] += 1;
+        }
+    }
+    assert_eq!(times, [3 * 34, 3 * 128, 3 * 64, 3 * 20, 3 * 10]);
+}
+
+/// The judgements of a group that the identifier doesn't carry are fit, and those
+/// of the others go by their own status byte, with every identifier.
+fn groups_not_carried() {
+    for identifier in IDENTIFIERS.map(u32::from) {
+        let setup = Setup {
+            identifier,
+            ..EXAMPLE
+        };
+        let judged_by = |statuses: [u8; 3]| {
+            let fields = Fields {
+                statuses,
+                temperature_statuses: [0xC8; 3],
+                auxiliary_status: 0xC8,
+                ..Fields::ZEROS
+            };
+            let answer = feed(&open_session(&setup).unwrap(), &encode(&setup, &fields));
+            assert_eq!(answer.outcome, Outcome::Datagram);
+            answer.datagram.judgements
+        };
+        let carries = layout_of(identifier).unwrap().carries;
+        let expected = [Integrity, StartUp, Error];
+        let judged = [0, 1, 2].map(|group| if carries[group] { expected[group] } else { Fit });
+        assert_eq!(
+            judged_by([0xFF, 0x7F, 0x3F]),
+            judged.map(|judgement| [judgement; 3])
+        );
+        assert_eq!(judged_by([0; 3]), [[Fit; 3]; 3]);
+    }
+    assert_eq!(Datagram::ZEROS.judgements, [[Fit; 3]; 3]);
 }
 
 /// A datagram of the example setup.
@@ -531,6 +622,105 @@ fn every_listed_status() {
     let mut expected = [1; 256];
     expected[0] = 2;
     assert_eq!(times, [expected; 3]);
+}
+
+/// The listed calls of 02, 2.3: what each answers, the statuses of its groups and
+/// the judgements of gyro, accelerometer and inclinometer, a letter for a word.
+fn listed_judgements() {
+    let expected = [
+        ("datagram", [0x40, 0x40, 0x40], "SSS SSS SSS"),
+        ("datagram", [0x40, 0x40, 0x40], "SSS SSS SSS"),
+        ("datagram", [0x40, 0x40, 0x00], "SSS SSS FFF"),
+        ("datagram", [0x00, 0x00, 0x00], "FFF FFF FFF"),
+        ("datagram", [0xC0, 0x80, 0x40], "III III SSS"),
+        ("datagram", [0xC8, 0x48, 0x18], "III SSS EEE"),
+        ("datagram", [0x19, 0x11, 0x0A], "EFF OFF FEF"),
+        ("datagram", [0x1A, 0x1C, 0x1F], "FEF FFE EEE"),
+        ("datagram", [0x10, 0x08, 0x20], "OOO EEE FFF"),
+        ("datagram", [0x16, 0x0D, 0x07], "FOO EFE FFF"),
+        ("datagram", [0x50, 0x90, 0x88], "SSS III III"),
+        ("datagram", [0x58, 0x98, 0xD8], "SSS III III"),
+        ("datagram", [0xD0, 0x30, 0x28], "III OOO EEE"),
+        ("datagram", [0x4A, 0x94, 0xC1], "SSS III III"),
+        ("datagram", [0x38, 0xD7, 0x59], "EEE III SSS"),
+        ("datagram", [0x14, 0x00, 0x12], "FFO FFF FOF"),
+        ("datagram", [0xFF, 0x3F, 0x27], "III EEE FFF"),
+        ("datagram", [0x00, 0x00, 0x00], "FFF FFF FFF"),
+        // Gyro only.
+        ("datagram", [0x40, 0x00, 0x00], "SSS FFF FFF"),
+        ("datagram", [0x00, 0x00, 0x00], "FFF FFF FFF"),
+        ("datagram", [0xC8, 0x00, 0x00], "III FFF FFF"),
+        ("datagram", [0x12, 0x00, 0x00], "FOF FFF FFF"),
+        ("datagram", [0x18, 0x00, 0x00], "EEE FFF FFF"),
+        ("datagram", [0x10, 0x00, 0x00], "OOO FFF FFF"),
+        // Gyro and inclinometer, gyro and accelerometer.
+        ("datagram", [0x80, 0x00, 0x1A], "III FFF FEF"),
+        ("datagram", [0x19, 0x40, 0x00], "EFF SSS FFF"),
+        // No datagram, but for the third.
+        ("waiting", [0x00, 0x00, 0x00], "FFF FFF FFF"),
+        ("refused 11", [0x00, 0x00, 0x00], "FFF FFF FFF"),
+        ("datagram", [0xFF, 0xFF, 0xFF], "III III III"),
+        ("waiting", [0x00, 0x00, 0x00], "FFF FFF FFF"),
+    ];
+    let calls = listed::judged_feeds();
+    assert_eq!(calls.len(), expected.len());
+    for (call, (outcome, statuses, letters)) in calls.iter().zip(expected) {
+        let answer = answer_text(call);
+        assert!(answer.starts_with(&format!("feed {outcome} ")), "{answer}");
+        let words = datagram_words(&answer);
+        assert_eq!(words[10..13], statuses.map(|status: u8| status.to_string()));
+        assert_eq!(words[32..41].join(" "), words_of(letters), "{statuses:?}");
+        assert_eq!(words.len(), 81);
+    }
+    // Where they stand: behind the flagged channels, before the gyro's unit.
+    let words = " 1 0 0 fit overload fit fit fit fit fit fit fit 3 ";
+    assert!(answer_text(&calls[21]).contains(words));
+}
+
+/// The words of an answer's datagram. The judgements are from 32 to 40.
+fn datagram_words(answer: &str) -> Vec<&str> {
+    let mut lines = answer.lines();
+    let line = lines.find(|line| line.starts_with("datagram "));
+    line.expect("every answer has one").split(' ').collect()
+}
+
+fn words_of(letters: &str) -> String {
+    let letters = letters.chars().filter(|&letter| letter != ' ');
+    let words = letters.map(|letter| match letter {
+        'F' => "fit",
+        'I' => "integrity",
+        'S' => "start-up",
+        'E' => "error",
+        'O' => "overload",
+        _ => panic!("{letter} stands for no word"),
+    });
+    words.collect::<Vec<_>>().join(" ")
+}
+
+/// In the listed calls of every status each group has all 256, each judgement that
+/// comes back is the first that applies, and a total moves if it is fit, else not.
+fn every_listed_judgement() {
+    let mut times = [[0; 256]; 3];
+    let mut times_named = [[0; 5]; 3];
+    let answers = answers_of(&listed::feeds_of_every_status());
+    for (before, answer) in answers.iter().zip(&answers[1..]) {
+        let text = feed_text(answer);
+        let words = datagram_words(&text);
+        for group in 0..3 {
+            let status = status_of(answer, group);
+            times[group][usize::from(status)] += 1;
+            for axis in 0..3 {
+                let judgement = first_in(PAPER_ORDER, status, axis);
+                times_named[group][judgement as usize] += 1;
+                let letter = ["F", "I", "S", "E", "O"][judgement as usize];
+                assert_eq!(words[32 + 3 * group + axis], words_of(letter));
+                let steps = |answer: &Answer| answer.datagram.totals[group][axis].steps;
+                assert_eq!(steps(answer) != steps(before), judgement == Fit);
+            }
+        }
+    }
+    assert_eq!(times, [[1; 256]; 3]);
+    assert_eq!(times_named, [[102, 384, 192, 60, 30]; 3]);
 }
 
 fn keeps_all_totals(run: &Run) -> bool {
@@ -1246,6 +1436,235 @@ fn wrong_statuses() {
         }
     }
     println!("{} wrong rules of fitness told apart", WRONG_STATUSES.len());
+}
+
+// ----------------------------------------------------------------- judgements
+
+/// How an axis of a group is judged by an answer.
+type Judge = fn(&Answer, usize, usize) -> Judgement;
+
+const PAPER_ORDER: [Judgement; 4] = [Integrity, StartUp, Error, Overload];
+
+/// Rules of naming that a careless reading of 2.3 gives. What is printed of the
+/// datagrams that the listed calls hand out, the stored ones, and 2,000 generated
+/// ones of three seeds, tells each from the right one.
+const WRONG_JUDGES: [(&str, Judge); 26] = [
+    ("error and overload swapped", |answer, group, axis| {
+        swapped(Error, Overload, right(answer, group, axis))
+    }),
+    ("integrity and start-up swapped", |answer, group, axis| {
+        swapped(Integrity, StartUp, right(answer, group, axis))
+    }),
+    ("start-up and error swapped", |answer, group, axis| {
+        swapped(StartUp, Error, right(answer, group, axis))
+    }),
+    ("bits 3 and 4 swapped", |answer, group, axis| {
+        let status = status_of(answer, group);
+        judgement_of(
+            status & 0xE7 | status << 1 & 0x10 | status >> 1 & 0x08,
+            axis,
+        )
+    }),
+    ("bits 7 and 6 swapped", |answer, group, axis| {
+        let status = status_of(answer, group);
+        judgement_of(
+            status & 0x3F | status << 1 & 0x80 | status >> 1 & 0x40,
+            axis,
+        )
+    }),
+    ("overload before error", |answer, group, axis| {
+        let order = [Integrity, StartUp, Overload, Error];
+        first_in(order, status_of(answer, group), axis)
+    }),
+    ("start-up before integrity", |answer, group, axis| {
+        let order = [StartUp, Integrity, Error, Overload];
+        first_in(order, status_of(answer, group), axis)
+    }),
+    ("error before start-up", |answer, group, axis| {
+        let order = [Integrity, Error, StartUp, Overload];
+        first_in(order, status_of(answer, group), axis)
+    }),
+    ("error before integrity", |answer, group, axis| {
+        let order = [Error, Integrity, StartUp, Overload];
+        first_in(order, status_of(answer, group), axis)
+    }),
+    (
+        "start-up behind error and overload",
+        |answer, group, axis| {
+            let order = [Integrity, Error, Overload, StartUp];
+            first_in(order, status_of(answer, group), axis)
+        },
+    ),
+    ("overload before integrity", |answer, group, axis| {
+        let order = [Overload, Integrity, StartUp, Error];
+        first_in(order, status_of(answer, group), axis)
+    }),
+    ("the last that applies", |answer, group, axis| {
+        let order = [Overload, Error, StartUp, Integrity];
+        first_in(order, status_of(answer, group), axis)
+    }),
+    ("no axis named is fit", |answer, group, axis| {
+        let status = status_of(answer, group);
+        judgement_of(if_none_named(status, status & !0x18), axis)
+    }),
+    ("no axis named is fit for bit 3", |answer, group, axis| {
+        let status = status_of(answer, group);
+        judgement_of(if_none_named(status, status & !0x08), axis)
+    }),
+    ("no axis named is fit for bit 4", |answer, group, axis| {
+        let status = status_of(answer, group);
+        judgement_of(if_none_named(status, status & !0x10), axis)
+    }),
+    ("one axis named is all", |answer, group, axis| {
+        let status = status_of(answer, group);
+        let is_one = flagged_channels(status) == 1;
+        judgement_of(if is_one { status | 7 } else { status }, axis)
+    }),
+    ("the axis isn't looked at", |answer, group, axis| {
+        judgement_of(status_of(answer, group) | 7, axis)
+    }),
+    ("named by the next axis's bit", |answer, group, axis| {
+        right(answer, group, (axis + 1) % 3)
+    }),
+    (
+        "X and Z named by each other's bit",
+        |answer, group, axis| right(answer, group, 2 - axis),
+    ),
+    (
+        "bits 7 and 6 are for the axes named",
+        |answer, group, axis| {
+            let status = status_of(answer, group);
+            let is_named = status & 7 == 0 || status >> axis & 1 == 1;
+            judgement_of(if is_named { status } else { status & 0x3F }, axis)
+        },
+    ),
+    ("bit 5 is an error", |answer, group, axis| {
+        let status = status_of(answer, group);
+        judgement_of(status | status >> 2 & 0x08, axis)
+    }),
+    ("the gyro's status for every group", |answer, _, axis| {
+        right(answer, 0, axis)
+    }),
+    ("the next group's status", |answer, group, axis| {
+        right(answer, (group + 1) % 3, axis)
+    }),
+    ("the temperatures' status", |answer, group, axis| {
+        judgement_of(answer.datagram.fields.temperature_statuses[group], axis)
+    }),
+    ("groups and axes swapped", |answer, group, axis| {
+        right(answer, axis, group)
+    }),
+    ("fit where no total is kept", |answer, group, axis| {
+        if keeps_totals(&answer.session.setup, group) {
+            right(answer, group, axis)
+        } else {
+            Fit
+        }
+    }),
+];
+
+fn status_of(answer: &Answer, group: usize) -> u8 {
+    answer.datagram.fields.statuses[group]
+}
+
+fn right(answer: &Answer, group: usize, axis: usize) -> Judgement {
+    judgement_of(status_of(answer, group), axis)
+}
+
+fn swapped(one: Judgement, other: Judgement, judgement: Judgement) -> Judgement {
+    match judgement {
+        named if named == one => other,
+        named if named == other => one,
+        named => named,
+    }
+}
+
+/// The first of an order that applies to an axis, or fit.
+fn first_in(order: [Judgement; 4], status: u8, axis: usize) -> Judgement {
+    let is_named = status & 7 == 0 || status >> axis & 1 == 1;
+    let applies = |judgement: &Judgement| match judgement {
+        Integrity => status & 0x80 != 0,
+        StartUp => status & 0x40 != 0,
+        Error => status & 0x08 != 0 && is_named,
+        Overload => status & 0x10 != 0 && is_named,
+        Fit => false,
+    };
+    order.into_iter().find(applies).unwrap_or(Fit)
+}
+
+/// The answers that hand out a datagram, of the calls of feed among these.
+fn answers_of(calls: &[Call]) -> Vec<Answer> {
+    let answers = calls.iter().filter_map(|call| match call {
+        Call::Feed(session, piece) => Some(feed(session, piece)),
+        _ => None,
+    });
+    answers
+        .filter(|answer| answer.outcome == Outcome::Datagram)
+        .collect()
+}
+
+/// An answer with other judgements.
+fn judged_by(answer: &Answer, judge: Judge) -> Answer {
+    let mut other = *answer;
+    for group in 0..3 {
+        for axis in 0..3 {
+            other.datagram.judgements[group][axis] = judge(answer, group, axis);
+        }
+    }
+    other
+}
+
+fn wrong_judgements() {
+    let mut listed = listed::feeds_of_every_status();
+    listed.extend(listed::judged_feeds());
+    let stored = generate_call::stored_calls();
+    let mut sources = vec![
+        ("listed".to_string(), answers_of(&listed)),
+        ("stored".to_string(), answers_of(&stored)),
+    ];
+    for seed in 1..=3 {
+        let calls = generate_call::calls(seed, 2000);
+        sources.push((format!("seed {seed}"), answers_of(&calls)));
+    }
+    for (source, answers) in &sources {
+        for answer in answers {
+            assert_eq!(judged_by(answer, right), *answer);
+        }
+        for (name, wrong) in WRONG_JUDGES {
+            let told_apart =
+                |answer: &Answer| feed_text(&judged_by(answer, wrong)) != feed_text(answer);
+            assert!(answers.iter().any(told_apart), "{source}: {name}");
+        }
+    }
+    println!("{} wrong rules of naming told apart", WRONG_JUDGES.len());
+}
+
+/// Generated calls of feed have each judgement, and each set of bits 7, 6, 4 and
+/// 3, often enough.
+fn generated_judgements() {
+    let mut times = [0; 5];
+    let mut times_of_set = [0; 256];
+    let mut statuses = 0;
+    for answer in answers_of(&generate_call::calls(USUAL_SEED, 10_000)) {
+        let layout = layout_of(answer.session.setup.identifier).unwrap();
+        for group in (0..3).filter(|&group| layout.carries[group]) {
+            statuses += 1;
+            times_of_set[usize::from(status_of(&answer, group) & 0xD8)] += 1;
+            for judgement in answer.datagram.judgements[group] {
+                times[judgement as usize] += 1;
+            }
+        }
+    }
+    // 5 in 100 of each judgement, 1 in 100 of each of the sixteen sets.
+    assert!(
+        times.iter().all(|&count| 20 * count >= 3 * statuses),
+        "{times:?}"
+    );
+    let sets = (0..=0xD8).filter(|set| set & !0xD8 == 0);
+    for set in sets {
+        assert!(100 * times_of_set[set] >= statuses, "bits {set:x}");
+    }
+    println!("{statuses} generated statuses; fit, integrity, start-up, error, overload: {times:?}");
 }
 
 // ---------------------------------------------------------- plain against fast

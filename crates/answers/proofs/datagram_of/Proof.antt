@@ -28,6 +28,9 @@ array-read-flagged-channels-3 c = search needs
 flagged-channels-requires-3 : tie.Need-flagged-channels-requires-3
 flagged-channels-requires-3 c κs = search needs
 
+judgements-of-requires : tie.Need-judgements-of-requires
+judgements-of-requires c κs = search needs
+
 group-values-requires : tie.Need-group-values-requires
 group-values-requires c κs = search needs
 
@@ -51,11 +54,13 @@ unfolding datagramWith
 returns c =
     let s = c .before .before .before in
     let v = s .before .before in
-    let start = v .before .before .before .before .before .before .before in
+    let j = v .before .before .before in
+    let start = j .before .before .before .before .before in
     rw (
-      v .before .before .before .before .before .flagged-channels .ensures,
-      v .before .before .before .before .flagged-channels2 .ensures,
-      v .before .before .before .flagged-channels3 .ensures,
+      j .before .before .before .flagged-channels .ensures,
+      j .before .before .flagged-channels2 .ensures,
+      j .before .flagged-channels3 .ensures,
+      j .judgements-of .ensures,
       v .group-values .ensures,
       s .before .totals-of .ensures,
       s .total-doubles .ensures,
@@ -72,6 +77,7 @@ datagram-of-spec =
     flagged-channels-requires-2
     array-read-flagged-channels-3
     flagged-channels-requires-3
+    judgements-of-requires
     group-values-requires
     totals-of-requires
     total-doubles-requires

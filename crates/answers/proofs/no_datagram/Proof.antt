@@ -7,6 +7,9 @@ use Rattle.answers.proofs.no_datagram.Tie as tie
 no-fields-requires : tie.Need-no-fields-requires
 no-fields-requires c κs = search needs
 
+all-fit-requires : tie.Need-all-fit-requires
+all-fit-requires c κs = search needs
+
 no-values-requires : tie.Need-no-values-requires
 no-values-requires c κs = search needs
 
@@ -20,7 +23,8 @@ returns : tie.Need-returns
 unfolding noDatagram
 returns c =
     rw (
-      c .before .before .before .no-fields .ensures,
+      c .before .before .before .before .no-fields .ensures,
+      c .before .before .before .all-fit .ensures,
       c .before .before .no-values .ensures,
       c .before .no-totals .ensures,
       c .no-doubles .ensures,
@@ -29,4 +33,4 @@ returns c =
 pub no-datagram-spec : {M : Type 1} → statement M
 no-datagram-spec =
     tie.close
-    (tie.spec no-fields-requires no-values-requires no-totals-requires no-doubles-requires returns)
+    (tie.spec no-fields-requires all-fit-requires no-values-requires no-totals-requires no-doubles-requires returns)

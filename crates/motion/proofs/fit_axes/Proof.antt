@@ -1,30 +1,36 @@
 -- `motion::fit_axes` meets its contract. Assumes nothing.
 use Prim.Native.Nat.{ℕ}
-use mathlib.Core.Bool.{Bool, not, _&&_, _||_}
-use mathlib.Core.List.{[], _∷_}
-use mathlib.Core.Path.{ap, _∙_}
-use lib.Dec.{eqb}
+use mathlib.Core.Bool.{Bool, false, not, _&&_, _||_}
+use mathlib.Core.List.{List, [], _∷_}
+use mathlib.Core.Path.{ap}
+use lib.ListN.{getD}
 use Rattle.motion.specs.Status.{isSet, unfit}
-use Rattle.motion.proofs.Status.{none-flagged}
 use borrow.Author.Needs.{needs}
 use Rattle.motion.proofs.fit_axes.Statement.{statement}
 use Rattle.motion.proofs.fit_axes.Tie as tie
 
-flagged-channels-requires : tie.Need-flagged-channels-requires
-flagged-channels-requires c κs = search needs
+named-axes-requires : tie.Need-named-axes-requires
+named-axes-requires c κs = search needs
+
+array-read-x : tie.Need-array-read-x
+array-read-x c = search needs
+
+array-read-y : tie.Need-array-read-y
+array-read-y c = search needs
+
+array-read-z : tie.Need-array-read-z
+array-read-z c = search needs
 
 returns : tie.Need-returns
 unfolding unfit
-returns c =
-    ap (λ (none : Bool). judged none 0 ∷ judged none 1 ∷ judged none 2 ∷ [])
-    (ap (λ (n : ℕ). eqb n 0) (c .flagged-channels .ensures) ∙ none-flagged status)
+returns c = ap (λ (names : List Bool). fitBy names 0 ∷ fitBy names 1 ∷ fitBy names 2 ∷ []) (c .named-axes .ensures)
   where
     status : ℕ
     status = c .before .args .status
 
-    -- whether an axis is fit, where it is told whether no channel is flagged
-    judged : Bool → ℕ → Bool
-    judged none axis = not ((isSet status 7 || isSet status 6) || ((isSet status 3 || isSet status 4) && (isSet status axis || none)))
+    -- whether an axis is fit, where it is told which are named
+    fitBy : List Bool → ℕ → Bool
+    fitBy names axis = not ((isSet status 7 || isSet status 6) || ((isSet status 3 || isSet status 4) && getD names axis false))
 
 pub fit-axes-spec : {M : Type 1} → statement M
-fit-axes-spec = tie.close (tie.spec flagged-channels-requires returns)
+fit-axes-spec = tie.close (tie.spec named-axes-requires array-read-x array-read-y array-read-z returns)

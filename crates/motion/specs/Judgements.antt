@@ -1,0 +1,81 @@
+-- 02, 2.3: the judgement of an axis by its group's status byte, and the nine that come back with a datagram.
+use Prim.Native.Nat.{ℕ}
+use mathlib.Core.Bool.{Bool, true, false, _&&_, cond}
+use mathlib.Core.List.{List, [], _∷_}
+use mathlib.Core.Path.{_≡_}
+use lib.ListN.{getD}
+use Rattle.motion.specs.Status.{isSet, named, fit}
+use Rattle.motion.specs.declared.Judgement.{Judgement}
+use Rattle.motion.specs.declared.Judgement.the-variants.{Fit, Integrity, StartUp, Error, Overload}
+use Rattle.motion.specs.declared.GroupJudgements.{GroupJudgements}
+use Rattle.motion.specs.declared.Judgements.{Judgements}
+
+-- ---- one axis (X 0, Y 1, Z 2)
+
+-- which judgements apply to an axis: fit as 01 and 2.2 have it; integrity by bit 7 and start-up by bit 6, to every axis; error by bit 3 and overload by
+-- bit 4, to the axes that these bits name
+abbrev pub applies : ℕ → ℕ → Judgement → Bool
+applies status axis Fit = fit status axis
+applies status axis Integrity = isSet status 7
+applies status axis StartUp = isSet status 6
+applies status axis Error = isSet status 3 && named status axis
+applies status axis Overload = isSet status 4 && named status axis
+
+-- the order after fit
+abbrev pub order : List Judgement
+order = Integrity ∷ StartUp ∷ Error ∷ Overload ∷ []
+
+-- the first of a list that applies, fit if none does
+abbrev pub firstOf : (Judgement → Bool) → List Judgement → Judgement
+firstOf holds [] = Fit
+firstOf holds (j ∷ js) = cond (holds j) j (firstOf holds js)
+
+-- if several apply, the first in this order after fit is named
+unfoldable pub judgementOf : ℕ → ℕ → Judgement
+judgementOf status axis = firstOf (applies status axis) order
+
+-- the case fit, which is the fit by which totals go, for every status and axis (law judged-fit)
+abbrev pub isFit : Judgement → Bool
+isFit Fit = true
+isFit Integrity = false
+isFit StartUp = false
+isFit Error = false
+isFit Overload = false
+
+-- ---- the nine axes
+
+-- X, Y and Z of a group by its status byte
+abbrev pub groupJudgements : ℕ → GroupJudgements
+groupJudgements status = record { x = judgementOf status 0; y = judgementOf status 1; z = judgementOf status 2 }
+
+-- each group by its own status byte: gyro 0, accelerometer 1, inclinometer 2
+unfoldable pub judgementsOf : List ℕ → Judgements
+judgementsOf statuses =
+    record {
+      gyro = groupJudgements (getD statuses 0 0);
+      accelerometer = groupJudgements (getD statuses 1 0);
+      inclinometer = groupJudgements (getD statuses 2 0);
+    }
+
+-- ---- what the promises say of these
+
+-- a group's judgements are those of its axes by a status byte
+pub record JudgedBy (status : ℕ) (g : GroupJudgements) : Type 0 where
+  pub x : g .x ≡ judgementOf status 0
+  pub y : g .y ≡ judgementOf status 1
+  pub z : g .z ≡ judgementOf status 2
+
+-- X, Y and Z
+abbrev pub axesJudged : ℕ → List Judgement
+axesJudged status = judgementOf status 0 ∷ judgementOf status 1 ∷ judgementOf status 2 ∷ []
+
+-- cases in numbers, which tell every bit from every other
+pub record JudgedCases : Type 0 where
+  pub integrity : axesJudged 0x80 ≡ Integrity ∷ Integrity ∷ Integrity ∷ []
+  pub start-up : axesJudged 0x40 ≡ StartUp ∷ StartUp ∷ StartUp ∷ []
+  pub outside-conditions : axesJudged 0x20 ≡ Fit ∷ Fit ∷ Fit ∷ []
+  pub error-and-overload : axesJudged 0x18 ≡ Error ∷ Error ∷ Error ∷ []
+  pub overload : axesJudged 0x10 ≡ Overload ∷ Overload ∷ Overload ∷ []
+  pub overload-of-x : axesJudged 0x11 ≡ Overload ∷ Fit ∷ Fit ∷ []
+  pub error-of-y : axesJudged 0x0A ≡ Fit ∷ Error ∷ Fit ∷ []
+  pub error-of-z : axesJudged 0x0C ≡ Fit ∷ Fit ∷ Error ∷ []
