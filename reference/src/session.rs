@@ -224,8 +224,8 @@ fn take_byte(session: &mut Session, byte: u8) -> Option<Vec<u8>> {
     found
 }
 
-/// Hands out an acceptable datagram: gap, values, judgements and totals by the
-/// session. The status of a group that isn't carried is 0, so its axes are fit.
+/// Hands out an acceptable datagram: gap, values and totals by the session,
+/// judgements by the statuses. That of a group not carried is 0: fit.
 fn hand_out(session: &mut Session, bytes: &[u8]) -> Datagram {
     let setup = session.setup;
     let fields = decode(&setup, bytes);

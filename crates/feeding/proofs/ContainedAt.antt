@@ -1,4 +1,4 @@
--- What a session keeps after datagrams, and so what comes back with the datagram at a place: its own fields, and the gap to the one before it.
+-- What a session keeps after datagrams, and so what comes back with the datagram at a place: its own fields and judgements, and the gap to the one before it.
 -- Assumes nothing.
 use Prim.Native.Nat.{ℕ, zero, suc, _+_, _-_, _<_}
 use mathlib.Core.Path.{_≡_, refl, sym, ap, _∙_, subst}
@@ -82,8 +82,6 @@ module _ (u : Setup) where
           readings = c .readings;
           fields = c .fields;
           flags = c .flags;
-          gyro-judged = c .gyro-judged;
-          accelerometer-judged = c .accelerometer-judged;
-          inclinometer-judged = c .inclinometer-judged;
+          judgements = c .judgements;
           gap = c .gap ∙ ap (λ (b : Bool). missedAt (u .rate) b (before .previous) (now .counter)) first-at ∙ gap-at;
         })

@@ -23,7 +23,7 @@ use Rattle.motion.specs.Totals.{noAxis, axisAt, totalOf, totalsOf, totalAt}
 use Rattle.motion.specs.declared.Axis.{Axis}
 use Rattle.motion.specs.declared.Total.{Total}
 use Rattle.motion.proofs.NineAxes.{each-axis, total-at}
-use Rattle.motion.proofs.Judged.{judged-gyro, judged-accelerometer, judged-inclinometer}
+use Rattle.motion.proofs.Judged.{judged-by}
 use Rattle.doubles.specs.Doubles.{negative, plusZero, unitNumberIn, doublesIn, shiftIn, groupValues, valuesFor, totalDouble, doubleAt}
 use Rattle.doubles.specs.declared.Values.{Values}
 use Rattle.doubles.proofs.Doubles.{double-at}
@@ -53,9 +53,7 @@ module _ (u : Setup) (ok : rulingOn u ≡ Accepted) (h : History) (d : List ℕ)
         readings = unfold datagramWith fieldsOf in refl;
         fields = unfold datagramWith in refl;
         flags = unfold datagramWith in refl;
-        gyro-judged = unfold datagramWith in judged-gyro (fieldsOf (u .identifier) d .statuses);
-        accelerometer-judged = unfold datagramWith in judged-accelerometer (fieldsOf (u .identifier) d .statuses);
-        inclinometer-judged = unfold datagramWith in judged-inclinometer (fieldsOf (u .identifier) d .statuses);
+        judgements = unfold datagramWith in judged-by (fieldsOf (u .identifier) d .statuses);
         gap = unfold datagramWith in missed-with (missedAt (u .rate) (awaitsFirst h) (h .previous) (fieldsOf (u .identifier) d .counter));
       })
 

@@ -89,9 +89,7 @@ pub record Contained (u : Setup) (first : Bool) (previous : ℕ) (d : List ℕ) 
   pub readings : o .gyro ∷ o .accelerometer ∷ o .inclinometer ∷ [] ≡ fieldsOf (u .identifier) d .readings
   pub fields : o .fields ≡ besidesReadings (fieldsOf (u .identifier) d)
   pub flags : o .flagged ≡ map flagged (fieldsOf (u .identifier) d .statuses)
-  pub gyro-judged : JudgedBy (getD (fieldsOf (u .identifier) d .statuses) 0 0) (o .judgements .gyro)
-  pub accelerometer-judged : JudgedBy (getD (fieldsOf (u .identifier) d .statuses) 1 0) (o .judgements .accelerometer)
-  pub inclinometer-judged : JudgedBy (getD (fieldsOf (u .identifier) d .statuses) 2 0) (o .judgements .inclinometer)
+  pub judgements : JudgedBy (fieldsOf (u .identifier) d .statuses) (o .judgements)
   pub gap : missedIn (o .gap) ≡ missedAt (u .rate) first previous (fieldsOf (u .identifier) d .counter)
 
 -- of an axis of a group: the group's unit, and each double its reading, or its total, over 2 ^ shift, without any rounding
@@ -184,7 +182,7 @@ pub record EveryCall : Type 0 where
   pub hands :
       (s : Session) → PassesTen s → (p : List ℕ) → call s p .answer ≡ datagram (feedOf s p .datagram) → CallHands s p (feedOf s p)
   pub waits : (s : Session) → PassesTen s → (p : List ℕ) → call s p .answer ≡ waiting → CallWaits s p (feedOf s p)
-  -- in whose answer, and in a refusal's, that place holds zeros, unit 0 and fit
+  -- in whose answer, and in a refusal's, that place holds zeros and unit 0, every axis fit
   pub zeros : Zeros noDatagram
   -- what holds only while all datagrams have one length
   pub one-length : OneLength

@@ -32,7 +32,7 @@ pub enum Answer {
     Refused(u8),
 }
 
-// What a call tells: which happened, how many bytes it took, the new session, and the datagram, zeros and fit where none is handed out.
+// What a call tells: which happened, how many bytes it took, the new session, and the datagram, zeros and every axis fit where none is handed out.
 pub struct Reply {
     pub answer: Answer,
     pub taken: usize,

@@ -1,54 +1,40 @@
 -- Laws of the judgement of an axis: which one is named, and that fit is the fit of 01 and 2.2 (02, 2.3). Assumes nothing.
 use Prim.Native.Nat.{ℕ}
 use mathlib.Core.Bool.{Bool, true, false, not, _&&_, _||_, cond}
-use mathlib.Core.List.{List, [], _∷_}
+use mathlib.Core.List.{List}
 use mathlib.Core.Path.{_≡_, refl, sym, ap, _∙_}
-use lib.ListN.{getD}
 use Rattle.integers.proofs.Booleans.{and-true, or-split}
 use Rattle.motion.specs.declared.Judgement.{Judgement}
 use Rattle.motion.specs.declared.Judgement.the-variants.{Fit, Integrity, StartUp, Error, Overload}
 use Rattle.motion.specs.Status.{isSet, named, unfit, fit}
-use Rattle.motion.specs.Judgements.{applies, firstOf, judgementOf, isFit, judgementsOf, JudgedBy, JudgedCases}
+use Rattle.motion.specs.Judgements.{applies, judgementOf, isFit, judgementsOf, JudgedBy, JudgedCases}
 use Rattle.motion.proofs.Status.{unfit-by-name}
-
--- ---- the first of a list that applies
-
-module _ (holds : Judgement → Bool) (j : Judgement) (js : List Judgement) where
-  first-here : holds j ≡ true → firstOf holds (j ∷ js) ≡ j
-  first-here e = ap (λ (b : Bool). cond b j (firstOf holds js)) e
-
-  first-behind : holds j ≡ false → firstOf holds (j ∷ js) ≡ firstOf holds js
-  first-behind e = ap (λ (b : Bool). cond b j (firstOf holds js)) e
 
 -- ---- one axis
 
 module _ (status axis : ℕ) where
-  abbrev holds : Judgement → Bool
-  holds = applies status axis
-
   -- each is named where it applies and none before it does
   pub judged-integrity : isSet status 7 ≡ true → judgementOf status axis ≡ Integrity
   unfolding judgementOf
-  judged-integrity i = first-here holds Integrity (StartUp ∷ Error ∷ Overload ∷ []) i
+  judged-integrity i = rw i
 
   pub judged-start-up : isSet status 7 ≡ false → isSet status 6 ≡ true → judgementOf status axis ≡ StartUp
   unfolding judgementOf
-  judged-start-up i s = first-behind holds Integrity (StartUp ∷ Error ∷ Overload ∷ []) i ∙ first-here holds StartUp (Error ∷ Overload ∷ []) s
+  judged-start-up i s = rw (i, s)
 
   module _ (i : isSet status 7 ≡ false) (s : isSet status 6 ≡ false) where
-    later : judgementOf status axis ≡ firstOf holds (Error ∷ Overload ∷ [])
-    unfolding judgementOf
-    later = first-behind holds Integrity (StartUp ∷ Error ∷ Overload ∷ []) i ∙ first-behind holds StartUp (Error ∷ Overload ∷ []) s
-
     pub error-first : applies status axis Error ≡ true → judgementOf status axis ≡ Error
-    error-first e = later ∙ first-here holds Error (Overload ∷ []) e
+    unfolding judgementOf
+    error-first e = rw (i, s, e)
 
     pub overload-first : applies status axis Error ≡ false → applies status axis Overload ≡ true → judgementOf status axis ≡ Overload
-    overload-first e o = later ∙ first-behind holds Error (Overload ∷ []) e ∙ first-here holds Overload [] o
+    unfolding judgementOf
+    overload-first e o = rw (i, s, e, o)
 
     -- and fit where none applies
-    pub none-applies : applies status axis Error ≡ false → applies status axis Overload ≡ false → judgementOf status axis ≡ Fit
-    none-applies e o = later ∙ first-behind holds Error (Overload ∷ []) e ∙ first-behind holds Overload [] o
+    pub fit-if-none : applies status axis Error ≡ false → applies status axis Overload ≡ false → judgementOf status axis ≡ Fit
+    unfolding judgementOf
+    fit-if-none e o = rw (i, s, e, o)
 
   -- an unfit axis without integrity and start-up: error by bit 3, overload without it
   pub judged-error :
@@ -65,7 +51,7 @@ module _ (status axis : ℕ) where
       let overload : isSet status 4 ≡ true = sym (ap (λ (b : Bool). b || isSet status 4) e) ∙ unfit .0 in
       overload-first (clear .0) (clear .1) (ap (λ (b : Bool). b && named status axis) e) (and-true overload (unfit .1))
 
-  -- the case fit is the fit by which totals go
+  -- a judgement is fit exactly where the axis is
   pub judged-fit : isFit (judgementOf status axis) ≡ fit status axis
   unfolding judgementOf unfit
   judged-fit = by (isSet status 7) (isSet status 6) (isSet status 3) (isSet status 4) (named status axis)
@@ -82,11 +68,14 @@ module _ (status axis : ℕ) where
       by false false false true false = refl
       by false false false false n = refl
 
-  -- what is named applies
+  -- the judgement that is named applies
   pub judged-applies : applies status axis (judgementOf status axis) ≡ true
   unfolding judgementOf
   judged-applies = by (holds Integrity) (holds StartUp) (holds Error) (holds Overload) refl refl refl refl
     where
+      holds : Judgement → Bool
+      holds j = applies status axis j
+
       by :
           (i s e o : Bool) → holds Integrity ≡ i → holds StartUp ≡ s → holds Error ≡ e → holds Overload ≡ o
           → holds (cond i Integrity (cond s StartUp (cond e Error (cond o Overload Fit)))) ≡ true
@@ -94,16 +83,28 @@ module _ (status axis : ℕ) where
       by false true e o hi hs he ho = hs
       by false false true o hi hs he ho = he
       by false false false true hi hs he ho = ho
-      by false false false false hi hs he ho = sym judged-fit ∙ ap isFit (none-applies hi hs he ho)
+      by false false false false hi hs he ho = sym judged-fit ∙ ap isFit (fit-if-none hi hs he ho)
 
 -- by a status byte of 0 every axis is fit
 pub judged-zero : (axis : ℕ) → judgementOf 0 axis ≡ Fit
 unfolding judgementOf
 judged-zero axis = refl
 
+-- ---- the nine axes
+
+-- each axis by its own group's status byte
+pub judged-by : (statuses : List ℕ) → JudgedBy statuses (judgementsOf statuses)
+unfolding judgementsOf
+judged-by statuses =
+    record {
+      gyro = record { x = refl; y = refl; z = refl };
+      accelerometer = record { x = refl; y = refl; z = refl };
+      inclinometer = record { x = refl; y = refl; z = refl };
+    }
+
 -- in numbers
 pub judged-cases : JudgedCases
-unfolding judgementOf unfit
+unfolding judgementOf judgementsOf unfit
 judged-cases =
     record {
       integrity = refl;
@@ -114,19 +115,5 @@ judged-cases =
       overload-of-x = refl;
       error-of-y = refl;
       error-of-z = refl;
+      each-group = refl;
     }
-
--- ---- the nine axes: each group by its own status byte
-
-module _ (statuses : List ℕ) where
-  pub judged-gyro : JudgedBy (getD statuses 0 0) (judgementsOf statuses .gyro)
-  unfolding judgementsOf
-  judged-gyro = record { x = refl; y = refl; z = refl }
-
-  pub judged-accelerometer : JudgedBy (getD statuses 1 0) (judgementsOf statuses .accelerometer)
-  unfolding judgementsOf
-  judged-accelerometer = record { x = refl; y = refl; z = refl }
-
-  pub judged-inclinometer : JudgedBy (getD statuses 2 0) (judgementsOf statuses .inclinometer)
-  unfolding judgementsOf
-  judged-inclinometer = record { x = refl; y = refl; z = refl }

@@ -26,15 +26,15 @@ abbrev pub order : List Judgement
 order = Integrity ∷ StartUp ∷ Error ∷ Overload ∷ []
 
 -- the first of a list that applies, fit if none does
-abbrev pub firstOf : (Judgement → Bool) → List Judgement → Judgement
-firstOf holds [] = Fit
-firstOf holds (j ∷ js) = cond (holds j) j (firstOf holds js)
+abbrev pub firstApplying : (Judgement → Bool) → List Judgement → Judgement
+firstApplying holds [] = Fit
+firstApplying holds (j ∷ js) = cond (holds j) j (firstApplying holds js)
 
 -- if several apply, the first in this order after fit is named
 unfoldable pub judgementOf : ℕ → ℕ → Judgement
-judgementOf status axis = firstOf (applies status axis) order
+judgementOf status axis = firstApplying (applies status axis) order
 
--- the case fit, which is the fit by which totals go, for every status and axis (law judged-fit)
+-- whether a judgement is fit: exactly where the axis is fit, by which totals move (law judged-fit)
 abbrev pub isFit : Judgement → Bool
 isFit Fit = true
 isFit Integrity = false
@@ -60,22 +60,31 @@ judgementsOf statuses =
 -- ---- what the promises say of these
 
 -- a group's judgements are those of its axes by a status byte
-pub record JudgedBy (status : ℕ) (g : GroupJudgements) : Type 0 where
+pub record GroupJudgedBy (status : ℕ) (g : GroupJudgements) : Type 0 where
   pub x : g .x ≡ judgementOf status 0
   pub y : g .y ≡ judgementOf status 1
   pub z : g .z ≡ judgementOf status 2
 
--- X, Y and Z
-abbrev pub axesJudged : ℕ → List Judgement
-axesJudged status = judgementOf status 0 ∷ judgementOf status 1 ∷ judgementOf status 2 ∷ []
+-- and of all groups, each by its own
+pub record JudgedBy (statuses : List ℕ) (j : Judgements) : Type 0 where
+  pub gyro : GroupJudgedBy (getD statuses 0 0) (j .gyro)
+  pub accelerometer : GroupJudgedBy (getD statuses 1 0) (j .accelerometer)
+  pub inclinometer : GroupJudgedBy (getD statuses 2 0) (j .inclinometer)
 
--- cases in numbers, which tell every bit from every other
+-- cases in numbers, which tell every bit, every axis and every group from every other
 pub record JudgedCases : Type 0 where
-  pub integrity : axesJudged 0x80 ≡ Integrity ∷ Integrity ∷ Integrity ∷ []
-  pub start-up : axesJudged 0x40 ≡ StartUp ∷ StartUp ∷ StartUp ∷ []
-  pub outside-conditions : axesJudged 0x20 ≡ Fit ∷ Fit ∷ Fit ∷ []
-  pub error-and-overload : axesJudged 0x18 ≡ Error ∷ Error ∷ Error ∷ []
-  pub overload : axesJudged 0x10 ≡ Overload ∷ Overload ∷ Overload ∷ []
-  pub overload-of-x : axesJudged 0x11 ≡ Overload ∷ Fit ∷ Fit ∷ []
-  pub error-of-y : axesJudged 0x0A ≡ Fit ∷ Error ∷ Fit ∷ []
-  pub error-of-z : axesJudged 0x0C ≡ Fit ∷ Fit ∷ Error ∷ []
+  pub integrity : groupJudgements 0x80 ≡ record { x = Integrity; y = Integrity; z = Integrity }
+  pub start-up : groupJudgements 0x40 ≡ record { x = StartUp; y = StartUp; z = StartUp }
+  pub outside-conditions : groupJudgements 0x20 ≡ record { x = Fit; y = Fit; z = Fit }
+  pub error-and-overload : groupJudgements 0x18 ≡ record { x = Error; y = Error; z = Error }
+  pub overload : groupJudgements 0x10 ≡ record { x = Overload; y = Overload; z = Overload }
+  pub overload-of-x : groupJudgements 0x11 ≡ record { x = Overload; y = Fit; z = Fit }
+  pub error-of-y : groupJudgements 0x0A ≡ record { x = Fit; y = Error; z = Fit }
+  pub error-of-z : groupJudgements 0x0C ≡ record { x = Fit; y = Fit; z = Error }
+  pub each-group :
+      judgementsOf (0x80 ∷ 0x40 ∷ 0x18 ∷ [])
+      ≡ record {
+        gyro = record { x = Integrity; y = Integrity; z = Integrity };
+        accelerometer = record { x = StartUp; y = StartUp; z = StartUp };
+        inclinometer = record { x = Error; y = Error; z = Error };
+      }

@@ -78,15 +78,15 @@ pub struct Judgements {
     pub inclinometer: GroupJudgements,
 }
 
-// Which of X, Y and Z bits 3 and 4 of a status byte, where they are set, name (02, 2.2).
+// Which of X, Y and Z are named by bits 3 and 4 of a status byte, where these are set (02, 2.2).
 fn named_axes(status: u8) -> [bool; 3]
     ensures { λ r. ⌜ r ≡ namedAxes status ⌝ }
 {
     let none_flagged = flagged_channels(status) == 0;
-    let x = (status / 1 % 2 == 1) | none_flagged;
-    let y = (status / 2 % 2 == 1) | none_flagged;
-    let z = (status / 4 % 2 == 1) | none_flagged;
-    [x, y, z]
+    let x_named = (status / 1 % 2 == 1) | none_flagged;
+    let y_named = (status / 2 % 2 == 1) | none_flagged;
+    let z_named = (status / 4 % 2 == 1) | none_flagged;
+    [x_named, y_named, z_named]
 }
 
 // Which of X, Y and Z a group's status byte leaves fit (01, Status, doubles, gaps; 02, 2.2).
@@ -96,13 +96,13 @@ pub fn fit_axes(status: u8) -> [bool; 3]
     let integrity_or_start_up = (status / 128 % 2 == 1) | (status / 64 % 2 == 1);
     let error_or_overload = (status / 8 % 2 == 1) | (status / 16 % 2 == 1);
     let named = named_axes(status);
-    let x = named[0];
-    let y = named[1];
-    let z = named[2];
+    let x_named = named[0];
+    let y_named = named[1];
+    let z_named = named[2];
     [
-        !(integrity_or_start_up | (error_or_overload & x)),
-        !(integrity_or_start_up | (error_or_overload & y)),
-        !(integrity_or_start_up | (error_or_overload & z)),
+        !(integrity_or_start_up | (error_or_overload & x_named)),
+        !(integrity_or_start_up | (error_or_overload & y_named)),
+        !(integrity_or_start_up | (error_or_overload & z_named)),
     ]
 }
 
@@ -134,13 +134,13 @@ fn group_judgements(status: u8) -> GroupJudgements
     ensures { λ r. ⌜ r ≡ groupJudgements status ⌝ }
 {
     let named = named_axes(status);
-    let x = named[0];
-    let y = named[1];
-    let z = named[2];
+    let x_named = named[0];
+    let y_named = named[1];
+    let z_named = named[2];
     GroupJudgements {
-        x: judge_axis(status, x),
-        y: judge_axis(status, y),
-        z: judge_axis(status, z),
+        x: judge_axis(status, x_named),
+        y: judge_axis(status, y_named),
+        z: judge_axis(status, z_named),
     }
 }
 

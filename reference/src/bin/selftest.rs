@@ -1445,10 +1445,10 @@ type Judge = fn(&Answer, usize, usize) -> Judgement;
 
 const PAPER_ORDER: [Judgement; 4] = [Integrity, StartUp, Error, Overload];
 
-/// Rules of naming that a careless reading of 2.3 gives. What is printed of the
-/// datagrams that the listed calls hand out, the stored ones, and 2,000 generated
-/// ones of three seeds, tells each from the right one.
-const WRONG_JUDGES: [(&str, Judge); 26] = [
+/// Rules of naming that a careless reading of 2.3 gives, beside `wrong_orders`.
+/// What is printed of the datagrams that the listed calls hand out, the stored
+/// ones, and 2,000 generated ones of three seeds, tells each from the right one.
+const WRONG_JUDGES: [(&str, Judge); 19] = [
     ("error and overload swapped", |answer, group, axis| {
         swapped(Error, Overload, right(answer, group, axis))
     }),
@@ -1471,37 +1471,6 @@ const WRONG_JUDGES: [(&str, Judge); 26] = [
             status & 0x3F | status << 1 & 0x80 | status >> 1 & 0x40,
             axis,
         )
-    }),
-    ("overload before error", |answer, group, axis| {
-        let order = [Integrity, StartUp, Overload, Error];
-        first_in(order, status_of(answer, group), axis)
-    }),
-    ("start-up before integrity", |answer, group, axis| {
-        let order = [StartUp, Integrity, Error, Overload];
-        first_in(order, status_of(answer, group), axis)
-    }),
-    ("error before start-up", |answer, group, axis| {
-        let order = [Integrity, Error, StartUp, Overload];
-        first_in(order, status_of(answer, group), axis)
-    }),
-    ("error before integrity", |answer, group, axis| {
-        let order = [Error, Integrity, StartUp, Overload];
-        first_in(order, status_of(answer, group), axis)
-    }),
-    (
-        "start-up behind error and overload",
-        |answer, group, axis| {
-            let order = [Integrity, Error, Overload, StartUp];
-            first_in(order, status_of(answer, group), axis)
-        },
-    ),
-    ("overload before integrity", |answer, group, axis| {
-        let order = [Overload, Integrity, StartUp, Error];
-        first_in(order, status_of(answer, group), axis)
-    }),
-    ("the last that applies", |answer, group, axis| {
-        let order = [Overload, Error, StartUp, Integrity];
-        first_in(order, status_of(answer, group), axis)
     }),
     ("no axis named is fit", |answer, group, axis| {
         let status = status_of(answer, group);
@@ -1603,8 +1572,22 @@ fn answers_of(calls: &[Call]) -> Vec<Answer> {
         .collect()
 }
 
+/// The 23 orders of the four names that aren't the paper's.
+fn wrong_orders() -> Vec<[Judgement; 4]> {
+    let mut orders = Vec::new();
+    for places in 0..256 {
+        let order = [0, 2, 4, 6].map(|shift| PAPER_ORDER[places >> shift & 3]);
+        let has_all = PAPER_ORDER.iter().all(|name| order.contains(name));
+        if has_all && order != PAPER_ORDER {
+            orders.push(order);
+        }
+    }
+    assert_eq!(orders.len(), 23);
+    orders
+}
+
 /// An answer with other judgements.
-fn judged_by(answer: &Answer, judge: Judge) -> Answer {
+fn judged_by(answer: &Answer, judge: impl Fn(&Answer, usize, usize) -> Judgement) -> Answer {
     let mut other = *answer;
     for group in 0..3 {
         for axis in 0..3 {
@@ -1635,8 +1618,16 @@ fn wrong_judgements() {
                 |answer: &Answer| feed_text(&judged_by(answer, wrong)) != feed_text(answer);
             assert!(answers.iter().any(told_apart), "{source}: {name}");
         }
+        for order in wrong_orders() {
+            let wrong =
+                |answer: &Answer, group, axis| first_in(order, status_of(answer, group), axis);
+            let told_apart =
+                |answer: &Answer| feed_text(&judged_by(answer, wrong)) != feed_text(answer);
+            assert!(answers.iter().any(told_apart), "{source}: {order:?}");
+        }
     }
-    println!("{} wrong rules of naming told apart", WRONG_JUDGES.len());
+    let wrong = WRONG_JUDGES.len() + wrong_orders().len();
+    println!("{wrong} wrong rules of naming told apart");
 }
 
 /// Generated calls of feed have each judgement, and each set of bits 7, 6, 4 and

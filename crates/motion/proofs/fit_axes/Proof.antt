@@ -12,14 +12,14 @@ use Rattle.motion.proofs.fit_axes.Tie as tie
 named-axes-requires : tie.Need-named-axes-requires
 named-axes-requires c κs = search needs
 
-array-read-x : tie.Need-array-read-x
-array-read-x c = search needs
+array-read-x-named : tie.Need-array-read-x-named
+array-read-x-named c = search needs
 
-array-read-y : tie.Need-array-read-y
-array-read-y c = search needs
+array-read-y-named : tie.Need-array-read-y-named
+array-read-y-named c = search needs
 
-array-read-z : tie.Need-array-read-z
-array-read-z c = search needs
+array-read-z-named : tie.Need-array-read-z-named
+array-read-z-named c = search needs
 
 returns : tie.Need-returns
 unfolding unfit
@@ -33,4 +33,4 @@ returns c = ap (λ (names : List Bool). fitBy names 0 ∷ fitBy names 1 ∷ fitB
     fitBy names axis = not ((isSet status 7 || isSet status 6) || ((isSet status 3 || isSet status 4) && getD names axis false))
 
 pub fit-axes-spec : {M : Type 1} → statement M
-fit-axes-spec = tie.close (tie.spec named-axes-requires array-read-x array-read-y array-read-z returns)
+fit-axes-spec = tie.close (tie.spec named-axes-requires array-read-x-named array-read-y-named array-read-z-named returns)

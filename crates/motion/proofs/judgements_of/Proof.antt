@@ -1,7 +1,4 @@
 -- `motion::judgements_of` meets its contract. Assumes nothing.
-use mathlib.Core.Path.{_≡_}
-use Rattle.motion.specs.declared.GroupJudgements.{GroupJudgements}
-use Rattle.motion.specs.declared.Judgements.{Judgements}
 use Rattle.motion.specs.Judgements.{judgementsOf}
 use borrow.Author.Needs.{needs}
 use Rattle.motion.proofs.judgements_of.Statement.{statement}
@@ -27,12 +24,7 @@ group-judgements-requires-3 c κs = search needs
 
 returns : tie.Need-returns
 unfolding judgementsOf
-returns c = three (c .before .before .group-judgements .ensures) (c .before .group-judgements2 .ensures) (c .group-judgements3 .ensures)
-  where
-    three :
-        {x y z p q r : GroupJudgements} → x ≡ p → y ≡ q → z ≡ r
-        → _≡_ {A = Judgements} (record { gyro = x; accelerometer = y; inclinometer = z }) (record { gyro = p; accelerometer = q; inclinometer = r })
-    three e f g = rw (e, f, g)
+returns c = rw (c .before .before .group-judgements .ensures, c .before .group-judgements2 .ensures, c .group-judgements3 .ensures)
 
 pub judgements-of-spec : {M : Type 1} → statement M
 judgements-of-spec =
