@@ -47,9 +47,9 @@ module _ (status axis : ℕ) where
       (isSet status 7 || isSet status 6) ≡ false → isSet status 3 ≡ false → fit status axis ≡ false → judgementOf status axis ≡ Overload
   judged-overload c e u =
       let clear = or-split (isSet status 7) (isSet status 6) c in
-      let unfit = unfit-by-name status axis c u in
-      let overload : isSet status 4 ≡ true = sym (ap (λ (b : Bool). b || isSet status 4) e) ∙ unfit .0 in
-      overload-first (clear .0) (clear .1) (ap (λ (b : Bool). b && named status axis) e) (and-true overload (unfit .1))
+      let named-by = unfit-by-name status axis c u in
+      let overload : isSet status 4 ≡ true = sym (ap (λ (b : Bool). b || isSet status 4) e) ∙ named-by .0 in
+      overload-first (clear .0) (clear .1) (ap (λ (b : Bool). b && named status axis) e) (and-true overload (named-by .1))
 
   -- a judgement is fit exactly where the axis is
   pub judged-fit : isFit (judgementOf status axis) ≡ fit status axis

@@ -65,7 +65,7 @@ pub record GroupJudgedBy (status : ℕ) (g : GroupJudgements) : Type 0 where
   pub y : g .y ≡ judgementOf status 1
   pub z : g .z ≡ judgementOf status 2
 
--- and of all groups, each by its own
+-- and all judgements those of the groups, each by its own status byte
 pub record JudgedBy (statuses : List ℕ) (j : Judgements) : Type 0 where
   pub gyro : GroupJudgedBy (getD statuses 0 0) (j .gyro)
   pub accelerometer : GroupJudgedBy (getD statuses 1 0) (j .accelerometer)

@@ -1597,6 +1597,15 @@ fn judged_by(answer: &Answer, judge: impl Fn(&Answer, usize, usize) -> Judgement
     other
 }
 
+/// Whether some answer is printed otherwise with the judgements of a rule.
+fn is_told_apart(
+    answers: &[Answer],
+    rule: impl Fn(&Answer, usize, usize) -> Judgement + Copy,
+) -> bool {
+    let is_other = |answer: &Answer| feed_text(&judged_by(answer, rule)) != feed_text(answer);
+    answers.iter().any(is_other)
+}
+
 fn wrong_judgements() {
     let mut listed = listed::feeds_of_every_status();
     listed.extend(listed::judged_feeds());
@@ -1614,16 +1623,12 @@ fn wrong_judgements() {
             assert_eq!(judged_by(answer, right), *answer);
         }
         for (name, wrong) in WRONG_JUDGES {
-            let told_apart =
-                |answer: &Answer| feed_text(&judged_by(answer, wrong)) != feed_text(answer);
-            assert!(answers.iter().any(told_apart), "{source}: {name}");
+            assert!(is_told_apart(answers, wrong), "{source}: {name}");
         }
         for order in wrong_orders() {
             let wrong =
                 |answer: &Answer, group, axis| first_in(order, status_of(answer, group), axis);
-            let told_apart =
-                |answer: &Answer| feed_text(&judged_by(answer, wrong)) != feed_text(answer);
-            assert!(answers.iter().any(told_apart), "{source}: {order:?}");
+            assert!(is_told_apart(answers, wrong), "{source}: {order:?}");
         }
     }
     let wrong = WRONG_JUDGES.len() + wrong_orders().len();
