@@ -85,6 +85,10 @@ module _ (status axis : ℕ) where
       by false false false true hi hs he ho = ho
       by false false false false hi hs he ho = sym judged-fit ∙ ap isFit (fit-if-none hi hs he ho)
 
+  -- and fit applies only where it is named
+  pub fit-applies : applies status axis Fit ≡ isFit (judgementOf status axis)
+  fit-applies = sym judged-fit
+
 -- by a status byte of 0 every axis is fit
 pub judged-zero : (axis : ℕ) → judgementOf 0 axis ≡ Fit
 unfolding judgementOf

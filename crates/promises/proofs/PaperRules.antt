@@ -44,7 +44,7 @@ use Rattle.gaps.proofs.Gaps.{elapsed-back, elapsed-range, missed-steps, off-ste
 use Rattle.motion.proofs.AcceptedSetup.{integrated-kept, other-not-kept}
 use Rattle.motion.specs.Judgements.{judgementOf}
 use Rattle.motion.proofs.Status.{unfit-all, unfit-named, unfit-none-flagged, fit-unnamed, fit-clear}
-use Rattle.motion.proofs.Judged.{judged-fit, judged-integrity, judged-start-up, judged-error, judged-overload, judged-applies, judged-cases, judged-zero}
+use Rattle.motion.proofs.Judged.{judged-fit, judged-integrity, judged-start-up, judged-error, judged-overload, judged-applies, fit-applies, judged-cases, judged-zero}
 use Rattle.doubles.proofs.Starred.{starred}
 use Rattle.shown_line.proofs.Thirteen.{inside-passes, passes-inside}
 use Rattle.search.specs.Search.{isDatagram}
@@ -213,6 +213,7 @@ paper-rules =
       judged-error = judged-error;
       judged-overload = judged-overload;
       judged-applies = judged-applies;
+      fit-applies = fit-applies;
       judged-cases = judged-cases;
       judged-absent = λ i d g h none axis. ap (λ (status : ℕ). judgementOf status axis) (absent-group i d g h none .1) ∙ judged-zero axis;
       elapsed-samples = λ previous counter p c. let r = elapsed-range previous counter in (r .0, r .1, elapsed-back previous counter p c);
