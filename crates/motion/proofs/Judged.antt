@@ -68,6 +68,10 @@ module _ (status axis : ℕ) where
       by false false false true false = refl
       by false false false false n = refl
 
+  -- fit applies exactly where it is named
+  pub fit-applies : applies status axis Fit ≡ isFit (judgementOf status axis)
+  fit-applies = sym judged-fit
+
   -- the judgement that is named applies
   pub judged-applies : applies status axis (judgementOf status axis) ≡ true
   unfolding judgementOf
@@ -83,11 +87,7 @@ module _ (status axis : ℕ) where
       by false true e o hi hs he ho = hs
       by false false true o hi hs he ho = he
       by false false false true hi hs he ho = ho
-      by false false false false hi hs he ho = sym judged-fit ∙ ap isFit (fit-if-none hi hs he ho)
-
-  -- and fit applies only where it is named
-  pub fit-applies : applies status axis Fit ≡ isFit (judgementOf status axis)
-  fit-applies = sym judged-fit
+      by false false false false hi hs he ho = fit-applies ∙ ap isFit (fit-if-none hi hs he ho)
 
 -- by a status byte of 0 every axis is fit
 pub judged-zero : (axis : ℕ) → judgementOf 0 axis ≡ Fit

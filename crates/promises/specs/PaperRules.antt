@@ -89,7 +89,7 @@ pub record PaperRules : Type 0 where
   pub judged-overload :
       (status axis : ℕ) → (isSet status 7 || isSet status 6) ≡ false → isSet status 3 ≡ false → fit status axis ≡ false
       → judgementOf status axis ≡ Overload
-  -- the judgement that is named applies, and fit only where it is named; cases in numbers; the axes of a group that the identifier doesn't carry are fit
+  -- the judgement that is named applies, and fit nowhere else; cases in numbers; the axes of a group that the identifier doesn't carry are fit
   pub judged-applies : (status axis : ℕ) → applies status axis (judgementOf status axis) ≡ true
   pub fit-applies : (status axis : ℕ) → applies status axis Fit ≡ isFit (judgementOf status axis)
   pub judged-cases : JudgedCases
