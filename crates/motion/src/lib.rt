@@ -216,18 +216,22 @@ pub fn fits_total(steps: i64) -> bool
     integers::is_within(steps, GREATEST_TOTAL)
 }
 
-// x + 2^31, which is not negative.
-fn lifted(x: i32) -> u64
+// x + 2^31, how far x lies above the least i32: by the sign of x, so that no sum leaves 32 bits.
+fn above_least(x: i32) -> u32
     ensures { λ r. ⌜ pos r ≡ x +ℤ pos 2147483648 ⌝ }
 {
-    ((x as i64) + 2147483648) as u64
+    if x < 0 {
+        (x + 2147483647 + 1) as u32
+    } else {
+        (x as u32) + 2147483648
+    }
 }
 
-// The difference of two readings modulo 2^24, in -8388608 .. 8388607.
+// The difference of two readings modulo 2^24, in -8388608 .. 8388607. No number in it is wider than 32 bits (02, 2.4).
 fn difference(new: i32, old: i32) -> i32
     ensures { λ r. ⌜ r ≡ difference new old ⌝ }
 {
-    let d = std::num::wrapping_sub_u64(lifted(new), lifted(old)) % 16777216;
+    let d = std::num::wrapping_sub_u32(above_least(new), above_least(old)) % 16777216;
     if d < 8388608 {
         d as i32
     } else {
