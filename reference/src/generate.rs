@@ -613,11 +613,12 @@ fn axes_and_conditions(random: &mut Random) -> u8 {
     conditions | axes
 }
 
-fn any_reading(random: &mut Random) -> i32 {
+/// Each of the 2^24 readings as often as any other.
+pub fn any_reading(random: &mut Random) -> i32 {
     random.next() as i32 >> 8
 }
 
 /// Brings a number into the range of a reading, modulo 2^24.
-fn folded(number: i32) -> i32 {
+pub fn folded(number: i32) -> i32 {
     number << 8 >> 8
 }

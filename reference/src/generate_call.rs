@@ -1,18 +1,20 @@
-//! Single calls for `probe`, of every kind, from a seed, and the calls that
-//! crates/probe keeps.
+//! Single calls for `probe`, of every kind, from a seed; calls of feed with a pair of
+//! readings on each axis, from a seed; and the calls that crates/probe keeps.
 
 use std::collections::HashSet;
 
 use crate::call::{record_of, Call};
 use crate::datagram::{encode, Fields, Gap};
-use crate::generate::{doubtful_setup_line, error_status, setup_of_case, several_status, stream};
+use crate::generate::{
+    any_reading, doubtful_setup_line, error_status, folded, setup_of_case, several_status, stream,
+};
 use crate::generate_make;
 use crate::layout::{datagram_length, layout_of};
 use crate::line::{judge_line, text_of, Line};
 use crate::listed;
 use crate::random::Random;
 use crate::session::{feed, keeps_totals, open_session, Axis, Session, MOST_HELD};
-use crate::setup::{setup_line, Setup};
+use crate::setup::{setup_line, Setup, INTEGRATED};
 use crate::whole_piece::{lines_of, ROOM_FOR_LINES};
 use crate::{HIGHEST_READING, LOWEST_READING, PIECE_LIMIT, STREAM_LIMIT};
 
@@ -35,6 +37,7 @@ pub fn stored_calls() -> Vec<Call> {
         listed::pieces_of_statuses(),
         listed::feeds_of_every_status(),
         listed::judged_feeds(),
+        listed::feeds_of_extreme_pairs(),
     ];
     let mut seen = HashSet::new();
     for call in listed_cases.chain(listed_streams.into_iter().flatten()) {
@@ -512,6 +515,80 @@ fn forge(random: &mut Random, session: &mut Session) {
             }
         }
     }
+}
+
+// ---------------------------------------------------------------------- steps
+
+/// Steps at which a careless fold goes wrong: half the range, one less and one more,
+/// and one that leaves the lower 16 bits of a reading as they are.
+const EDGE_STEPS: [i32; 4] = [8_388_607, 8_388_608, 8_388_609, 65_536];
+
+/// Calls of feed for the step from one reading to the next (02, 2.4), as many as
+/// `count`. On eight of the nine axes the last and the new reading are any of all
+/// 2^24; on the other one, each in turn, the new one is an edge step further.
+pub fn feeds_of_reading_pairs(seed: u64, count: u64) -> impl Iterator<Item = Call> {
+    (0..count).map(move |number| feed_of_reading_pairs(seed, number))
+}
+
+/// A session that holds no bytes and whose nine axes have begun, and as its piece a
+/// whole datagram in which all is fit.
+fn feed_of_reading_pairs(seed: u64, number: u64) -> Call {
+    let random = &mut Random::for_case(seed.rotate_left(48), number);
+    let setup = integrated_setup(random);
+    let mut session = open_session(&setup).expect("the setup is good");
+    count_datagrams(random, &mut session);
+    session.previous_counter = random.byte();
+    for axis in session.axes.iter_mut().flatten() {
+        *axis = Axis {
+            last_fit_reading: any_reading(random),
+            ..begun_axis(random, session.datagrams)
+        };
+    }
+    let mut fields = fit_fields(random);
+    let place = number as usize % 9;
+    let last = session.axes[place / 3][place % 3].last_fit_reading;
+    fields.readings[place / 3][place % 3] = folded(last + random.pick(&EDGE_STEPS));
+    let piece = encode(&setup, &fields);
+    Call::Feed(Box::new(session), piece)
+}
+
+/// A setup in which every group is carried and integrated.
+fn integrated_setup(random: &mut Random) -> Setup {
+    Setup {
+        rate: random.pick(&[0, 125, 250, 500, 1000, 2000]),
+        identifier: random.pick(&[0x93, 0xA7, 0x9B, 0xAF]),
+        termination: random.below(2) as u32,
+        units: [INTEGRATED; 3],
+        shifts: [0; 3].map(|_| random.below(32) as u32),
+    }
+}
+
+/// Datagrams, one at least, and bytes passed over, so that another datagram has
+/// room in the stream.
+fn count_datagrams(random: &mut Random, session: &mut Session) {
+    let length = datagram_length(&session.setup).expect("the setup is good") as u64;
+    let most = STREAM_LIMIT / length - 1;
+    let wide = random.next() >> random.between(30, 63);
+    session.datagrams = random.pick(&[1, 2, wide, wide, wide, most]).clamp(1, most);
+    let left = STREAM_LIMIT - length * (session.datagrams + 1);
+    let wide = random.next() >> random.between(30, 63);
+    session.passed_over = random.pick(&[0, wide, left]).min(left);
+    session.bytes_fed = sum_of(session);
+}
+
+/// Any fields, but every status is 0.
+fn fit_fields(random: &mut Random) -> Fields {
+    let mut fields = Fields::ZEROS;
+    for group in 0..3 {
+        for axis in 0..3 {
+            fields.readings[group][axis] = any_reading(random);
+            fields.temperatures[group][axis] = random.next() as i16;
+        }
+    }
+    fields.auxiliary = any_reading(random);
+    fields.counter = random.byte();
+    fields.latency = random.next() as u16;
+    fields
 }
 
 // ---------------------------------------------------------------------- lines

@@ -1,8 +1,8 @@
 //! Listed calls: the cases of `cases.txt`, written by hand from 01, of
 //! `line_cases.txt`, written by tools/cases.pl, and of `make_cases.txt`, from 02,
 //! 2.1, with what each must answer; whole pieces at their edges; whole pieces in
-//! which every status shows in the totals; and calls of feed in which it shows in
-//! the judgements.
+//! which every status shows in the totals; calls of feed in which it shows in the
+//! judgements; and calls of feed in which totals step between extreme readings.
 
 use crate::call::{
     feed_text, line_text, made_text, opened_text, read_text, rehearsal_text, setup_text, Call,
@@ -668,4 +668,82 @@ fn feeds_of_stream(first: Session, bytes: &[u8]) -> (Vec<Call>, Session) {
         session = feed(&session, piece).session;
     }
     (calls, session)
+}
+
+// ---------------------------------------------------------------------- steps
+
+/// The ends, the quarters and the middle of a reading's range, and what lies beside
+/// them: between two of these a step is as far as may be, or about half the range.
+const EXTREME_READINGS: [i32; 13] = [
+    -8_388_608, -8_388_607, -8_388_600, -4_194_305, -4_194_304, -1, 0, 1, 4_194_303, 4_194_304,
+    8_388_600, 8_388_606, 8_388_607,
+];
+
+/// From one axis to the next the pairs of a call are so many further in their list.
+const PAIRS_APART: usize = 19;
+
+/// Calls of feed for the step from one reading to the next (02, 2.4): each of the
+/// nine axes has every pair of extreme readings once, a last and a new one.
+pub fn feeds_of_extreme_pairs() -> Vec<Call> {
+    let pairs = extreme_pairs();
+    let feed_of_number = |number: usize| {
+        let pair_of = |place: usize| pairs[(number + PAIRS_APART * place) % pairs.len()];
+        feed_of_pairs(number, std::array::from_fn(pair_of))
+    };
+    (0..pairs.len()).map(feed_of_number).collect()
+}
+
+/// The 169 ordered pairs of the extreme readings.
+fn extreme_pairs() -> Vec<(i32, i32)> {
+    let pairs_from = |last: i32| EXTREME_READINGS.map(|new| (last, new));
+    EXTREME_READINGS.into_iter().flat_map(pairs_from).collect()
+}
+
+/// A session whose nine axes keep the first reading of each pair, and as its piece
+/// a whole datagram with the second ones, in which all is fit.
+fn feed_of_pairs(number: usize, pairs: [(i32, i32); 9]) -> Call {
+    let setup = integrated_setup(number);
+    let length = datagram_length(&setup).expect("a good setup") as u64;
+    // One, some, or as many as leave room for two more.
+    let datagrams = [1, 2, 300, 1_000_000, STREAM_LIMIT / length - 2][number % 5];
+    let mut session = passed_over(&fresh(setup), number as u64 % 18);
+    session.datagrams = datagrams;
+    session.bytes_fed += length * datagrams;
+    session.previous_counter = 100;
+    let mut fields = Fields::ZEROS;
+    fields.counter = number as u8;
+    for (place, (last, new)) in pairs.into_iter().enumerate() {
+        session.axes[place / 3][place % 3] = Axis {
+            begun: true,
+            last_fit_reading: last,
+            total: allowed_total(datagrams, 2 * number + place),
+        };
+        fields.readings[place / 3][place % 3] = new;
+    }
+    Call::Feed(Box::new(session), encode(&setup, &fields))
+}
+
+/// A setup with every group carried and integrated. Rates, lengths and shifts come
+/// in turn, but the gyro's shift is the one that 001 has for it.
+fn integrated_setup(number: usize) -> Setup {
+    let shift = number as u32 % 32;
+    Setup {
+        rate: [0, 125, 250, 500, 1000, 2000][number % 6],
+        identifier: [0x93, 0xA7, 0x9B, 0xAF][number % 4],
+        termination: number as u32 / 4 % 2,
+        units: [3; 3],
+        shifts: [21, shift, 31 - shift],
+    }
+}
+
+/// A total that so many datagrams allow, of either sign: at the bound, just inside
+/// it, between it and 0, 1, or 0. Nine numbers in a row give each of them.
+fn allowed_total(datagrams: u64, number: usize) -> i64 {
+    let most = (datagrams as i64) << 23;
+    let sizes = [most, most - 1, most / 3, 1];
+    match number % 9 {
+        8 => 0,
+        place if place % 2 == 0 => sizes[place / 2],
+        place => -sizes[place / 2],
+    }
 }

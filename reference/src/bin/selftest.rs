@@ -3,8 +3,10 @@
 //! compares those two on COUNT generated cases of a seed, instead of the usual
 //! ones.
 
+use std::collections::HashSet;
 use std::env;
 use std::io::{self, Read};
+use std::ops::Range;
 
 use stim_reference::call::{answer_text, feed_text, Call};
 use stim_reference::check::{check_of, check_unpadded};
@@ -76,6 +78,10 @@ fn main() {
     wrong_statuses();
     wrong_judgements();
     generated_judgements();
+    listed_steps();
+    printed_steps();
+    generated_steps();
+    wrong_steps();
     fast_decimals();
     sessions_along_streams();
     plain_against_fast(seed, count);
@@ -1661,6 +1667,567 @@ fn generated_judgements() {
         assert!(100 * times_of_set[set] >= statuses, "bits {set:x}");
     }
     println!("{statuses} generated statuses; fit, integrity, start-up, error, overload: {times:?}");
+}
+
+// ---------------------------------------------------------------------- steps
+
+/// The readings of which the listed calls have every pair.
+const EXTREME_READINGS: [i32; 13] = [
+    -8_388_608, -8_388_607, -8_388_600, -4_194_305, -4_194_304, -1, 0, 1, 4_194_303, 4_194_304,
+    8_388_600, 8_388_606, 8_388_607,
+];
+
+/// A last reading, a new one, and by how much the total moves (01, Totals and
+/// Bench cases).
+const STEPS_BY_HAND: [(i32, i32, i64); 32] = [
+    // Over the ends.
+    (8_388_600, -8_388_600, 16),
+    (-8_388_600, 8_388_600, -16),
+    (8_388_607, -8_388_608, 1),
+    (-8_388_608, 8_388_607, -1),
+    (8_388_606, -8_388_607, 3),
+    (-8_388_607, 8_388_606, -3),
+    (8_388_607, -4_194_305, 4_194_304),
+    (-8_388_608, 4_194_304, -4_194_304),
+    // Half the range, up and down.
+    (-8_388_608, 0, -8_388_608),
+    (0, -8_388_608, -8_388_608),
+    (-8_388_607, 1, -8_388_608),
+    (1, -8_388_607, -8_388_608),
+    (-4_194_305, 4_194_303, -8_388_608),
+    (4_194_303, -4_194_305, -8_388_608),
+    (-4_194_304, 4_194_304, -8_388_608),
+    (4_194_304, -4_194_304, -8_388_608),
+    (-1, 8_388_607, -8_388_608),
+    (8_388_607, -1, -8_388_608),
+    // One less than that, and one more.
+    (0, 8_388_607, 8_388_607),
+    (8_388_607, 0, -8_388_607),
+    (-4_194_304, 4_194_303, 8_388_607),
+    (4_194_303, -4_194_304, -8_388_607),
+    (-8_388_608, 1, -8_388_607),
+    (1, -8_388_608, 8_388_607),
+    (-4_194_305, 4_194_304, -8_388_607),
+    (4_194_304, -4_194_305, 8_388_607),
+    // Near, and none.
+    (1, -1, -2),
+    (-1, 1, 2),
+    (-8_388_608, -8_388_600, 8),
+    (-8_388_608, -8_388_608, 0),
+    (8_388_607, 8_388_607, 0),
+    (0, 0, 0),
+];
+
+/// A call of feed whose nine axes have begun and are fit, and what it answers.
+struct Fed {
+    before: Session,
+    /// The readings in the piece, which is a whole datagram of three groups.
+    readings: [i32; 9],
+    answer: Answer,
+}
+
+impl Fed {
+    fn of(call: Call) -> Fed {
+        let Call::Feed(session, piece) = call else {
+            panic!("these are calls of feed");
+        };
+        let reading_at = |place: usize| {
+            // The identifier, then groups of 10 bytes with 3 for each axis.
+            let first = 1 + 10 * (place / 3) + 3 * (place % 3);
+            i32::from_be_bytes([piece[first], piece[first + 1], piece[first + 2], 0]) >> 8
+        };
+        Fed {
+            before: *session,
+            readings: std::array::from_fn(reading_at),
+            answer: feed(&session, &piece),
+        }
+    }
+
+    /// The last reading of an axis and its new one.
+    fn pair(&self, place: usize) -> (i32, i32) {
+        let kept = &self.before.axes[place / 3][place % 3];
+        (kept.last_fit_reading, self.readings[place])
+    }
+
+    /// By how much the total of an axis moves.
+    fn step(&self, place: usize) -> i64 {
+        let (group, axis) = (place / 3, place % 3);
+        self.answer.session.axes[group][axis].total - self.before.axes[group][axis].total
+    }
+}
+
+fn fed_listed() -> Vec<Fed> {
+    let calls = listed::feeds_of_extreme_pairs();
+    calls.into_iter().map(Fed::of).collect()
+}
+
+fn fed_generated(seed: u64, count: u64) -> Vec<Fed> {
+    let calls = generate_call::feeds_of_reading_pairs(seed, count);
+    calls.map(Fed::of).collect()
+}
+
+/// 01, Totals: a datagram is handed out, and each total moves by the one whole
+/// number from -8388608 to 8388607 that differs from new - last by a multiple of
+/// 2^24. It is so in the session and in the datagram, and the new reading is kept.
+fn check_steps(fed: &Fed) {
+    assert_eq!(fed.answer.outcome, Outcome::Datagram);
+    assert_eq!(fed.answer.datagram.fields.statuses, [0; 3]);
+    for place in 0..9 {
+        let (group, axis) = (place / 3, place % 3);
+        let (last, new) = fed.pair(place);
+        let step = fed.step(place);
+        assert!((-8_388_608..=8_388_607).contains(&step), "{last} to {new}");
+        let difference = i64::from(new) - i64::from(last);
+        assert_eq!((difference - step) % 16_777_216, 0, "{last} to {new}");
+        assert!(fed.before.axes[group][axis].begun);
+        let after = fed.answer.session.axes[group][axis];
+        assert_eq!((after.begun, after.last_fit_reading), (true, new));
+        let total = fed.answer.datagram.totals[group][axis];
+        assert_eq!((total.begun, total.steps), (true, after.total));
+        let power = 2.0_f64.powi(fed.answer.session.setup.shifts[group] as i32);
+        assert_eq!(total.double * power, after.total as f64);
+    }
+}
+
+/// The listed calls of 02, 2.4: each of the nine axes has each of the 169 pairs
+/// once, and the totals move as they must, in those by hand by the number written.
+fn listed_steps() {
+    let listed = fed_listed();
+    assert_eq!(listed.len(), 169);
+    for fed in &listed {
+        check_steps(fed);
+        let pairs: HashSet<(i32, i32)> = (0..9).map(|place| fed.pair(place)).collect();
+        assert_eq!(pairs.len(), 9);
+    }
+    for place in 0..9 {
+        has_every_pair(&listed, place);
+        moves_by_hand(&listed, place);
+        has_far_totals(&listed, place);
+    }
+    println!("169 pairs of extreme readings on each of 9 axes");
+}
+
+fn has_every_pair(all_fed: &[Fed], place: usize) {
+    for last in EXTREME_READINGS {
+        for new in EXTREME_READINGS {
+            let has_pair = |fed: &&Fed| fed.pair(place) == (last, new);
+            let times = all_fed.iter().filter(has_pair).count();
+            assert_eq!(times, 1, "{last} to {new}");
+        }
+    }
+}
+
+fn moves_by_hand(all_fed: &[Fed], place: usize) {
+    for (last, new, expected) in STEPS_BY_HAND {
+        let fed = all_fed.iter().find(|fed| fed.pair(place) == (last, new));
+        let step = fed.map(|fed| fed.step(place));
+        assert_eq!(step, Some(expected), "{last} to {new}");
+    }
+}
+
+/// The totals before the steps: 0, at both ends of what the datagrams allow, and
+/// far beyond 32 bits, to both sides.
+fn has_far_totals(all_fed: &[Fed], place: usize) {
+    let has = |is_wanted: fn(i64, i64) -> bool| {
+        let is_so = |fed: &Fed| {
+            let most = (fed.before.datagrams as i64) << 23;
+            is_wanted(fed.before.axes[place / 3][place % 3].total, most)
+        };
+        assert!(all_fed.iter().any(is_so), "axis {place}");
+    };
+    has(|total, _| total == 0);
+    has(|total, most| total == most);
+    has(|total, most| total == -most);
+    has(|total, _| total > 1 << 40);
+    has(|total, _| total < -(1 << 40));
+}
+
+/// What both programs print of two datagrams with the pairs of extreme readings.
+fn printed_steps() {
+    for last in EXTREME_READINGS {
+        for new in EXTREME_READINGS {
+            let head = [EXAMPLE_LINE, b"\n"].concat();
+            let datagrams = [example_datagram(last, 2), example_datagram(new, 4)].concat();
+            let input = [head, datagrams].concat();
+            let printed = output_for(&input, STREAM_LIMIT);
+            let quick = fast_output(&input, STREAM_LIMIT, &mut Random::new(1));
+            assert_eq!(printed, quick, "{last} to {new}");
+            let step = step_by_paper(last, new);
+            let line = format!("2,4,0,0,{new},0,0,0,{step},0,0,,,,,,,,,,,,,,\n");
+            assert!(printed.ends_with(line.as_bytes()), "{last} to {new}");
+        }
+    }
+}
+
+/// The generated calls of 02, 2.4: the totals move as they must; setups, totals and
+/// readings vary.
+fn generated_steps() {
+    let generated = fed_generated(USUAL_SEED, 4000);
+    generated.iter().for_each(check_steps);
+    (0..9).for_each(|place| has_far_totals(&generated, place));
+    generated_setups(&generated);
+    let pairs_of = |fed: &Fed| [0, 1, 2, 3, 4, 5, 6, 7, 8].map(|place| fed.pair(place));
+    let pairs: Vec<(i32, i32)> = generated.iter().flat_map(pairs_of).collect();
+    generated_readings(pairs.iter().map(|pair| pair.0));
+    generated_readings(pairs.iter().map(|pair| pair.1));
+    // A quarter of 32,000 and half of the 4,000 edge steps are expected.
+    let is_wrap = |&&(last, new): &&(i32, i32)| (new - last).abs() >= HALF_RANGE;
+    let wraps = pairs.iter().filter(is_wrap).count();
+    assert!((9_700..10_300).contains(&wraps), "{wraps}");
+    // And a quarter of the edge steps, half of these upwards.
+    for half_range in [HALF_RANGE, -HALF_RANGE] {
+        let is_half = |&&(last, new): &&(i32, i32)| new - last == half_range;
+        let halves = pairs.iter().filter(is_half).count();
+        assert!((400..600).contains(&halves), "{halves}");
+    }
+    println!("36000 generated pairs of readings, {wraps} of them wrap");
+}
+
+/// 6 rates, 4 identifiers and 2 terminations, and 32 shifts of each group.
+fn generated_setups(all_fed: &[Fed]) {
+    let mut setups = HashSet::new();
+    let mut shifts = HashSet::new();
+    for setup in all_fed.iter().map(|fed| fed.before.setup) {
+        assert_eq!(setup.units, [3; 3]);
+        setups.insert((setup.rate, setup.identifier, setup.termination));
+        shifts.extend([0, 1, 2].map(|group| (group, setup.shifts[group])));
+    }
+    assert_eq!(setups.len(), 48);
+    assert_eq!(shifts.len(), 96);
+}
+
+/// Of 36,000 readings 2,250 are expected in each sixteenth of the range.
+fn generated_readings(readings: impl Iterator<Item = i32>) {
+    let mut times = [0; 16];
+    for reading in readings {
+        times[(reading + HALF_RANGE) as usize / 1_048_576] += 1;
+    }
+    let is_even = |count: &u32| (2_050..2_450).contains(count);
+    assert!(times.iter().all(is_even), "{times:?}");
+}
+
+/// The one number from -8388608 to 8388607 that differs from new - last by a
+/// multiple of 2^24 (01, Totals). The difference itself is less than 2^24 in size.
+fn step_by_paper(last: i32, new: i32) -> i32 {
+    let nearest = [-1, 0, 1].map(|times| new - last + times * WHOLE_RANGE);
+    let mut steps = nearest.into_iter();
+    let in_range = |step: &i32| (-8_388_608..=8_388_607).contains(step);
+    steps.find(in_range).expect("one of three is in the range")
+}
+
+/// 2^24 and 2^23.
+const WHOLE_RANGE: i32 = 16_777_216;
+const HALF_RANGE: i32 = 8_388_608;
+
+/// The step from the last reading to the new one.
+type Step = fn(i32, i32) -> i32;
+
+/// Rules of the step that a careless writing of 2.4 gives. What is printed of the
+/// listed calls tells each from the right one, on each of the nine axes alone, and
+/// so does what is printed of 200 generated ones of three seeds.
+const WRONG_STEPS: [(&str, Step); 38] = [
+    ("not folded", |last, new| new - last),
+    // As the difference is less than 2^24 in size, these two are the same again.
+    ("the remainder by 2^24 that keeps the sign", |last, new| {
+        (new - last) % WHOLE_RANGE
+    }),
+    ("modulo 2^25", |last, new| cut_to(25, new - last)),
+    ("modulo 2^25, brought in by 2^24", |last, new| {
+        from_above((new - last).rem_euclid(2 * WHOLE_RANGE))
+    }),
+    ("modulo 2^23", |last, new| cut_to(23, new - last)),
+    ("modulo 2^23 without a sign", |last, new| {
+        (new - last).rem_euclid(HALF_RANGE)
+    }),
+    ("the remainder by 2^23 that keeps the sign", |last, new| {
+        (new - last) % HALF_RANGE
+    }),
+    ("modulo 2^24 without a sign", |last, new| {
+        (new - last).rem_euclid(WHOLE_RANGE)
+    }),
+    ("modulo 2^24 as sign and size", |last, new| {
+        let modulo = (new - last).rem_euclid(WHOLE_RANGE);
+        if modulo >= HALF_RANGE {
+            HALF_RANGE - modulo
+        } else {
+            modulo
+        }
+    }),
+    ("modulo 2^24 - 1", |last, new| {
+        from_above((new - last).rem_euclid(WHOLE_RANGE - 1))
+    }),
+    ("modulo 2^16", |last, new| cut_to(16, new - last)),
+    ("folded from above only", |last, new| from_above(new - last)),
+    // The same again, as a remainder that keeps the sign.
+    (
+        "half the range added before and taken after",
+        |last, new| (new - last + HALF_RANGE) % WHOLE_RANGE - HALF_RANGE,
+    ),
+    ("folded from below only", |last, new| from_below(new - last)),
+    ("folded the wrong way", |last, new| {
+        2 * (new - last) - step_by_paper(last, new)
+    }),
+    ("folded by half the range", |last, new| {
+        (new - last + step_by_paper(last, new)) / 2
+    }),
+    ("folded by 2^24 - 1", |last, new| {
+        match (new - last).rem_euclid(WHOLE_RANGE) {
+            modulo if modulo >= HALF_RANGE => modulo - (WHOLE_RANGE - 1),
+            modulo => modulo,
+        }
+    }),
+    ("folded wherever the signs are unlike", |last, new| {
+        let are_unlike = (new < 0) != (last < 0);
+        let folding = if are_unlike { WHOLE_RANGE } else { 0 };
+        new - last - folding * (new - last).signum()
+    }),
+    // The same again.
+    ("both readings without a sign, not folded", |last, new| {
+        without_sign(new) - without_sign(last)
+    }),
+    ("folded between the outer quarters only", |last, new| {
+        let quarter = HALF_RANGE / 2;
+        if last >= quarter && new < -quarter || last < -quarter && new >= quarter {
+            step_by_paper(last, new)
+        } else {
+            new - last
+        }
+    }),
+    ("no step where it is folded", |last, new| {
+        let step = step_by_paper(last, new);
+        if step == new - last {
+            step
+        } else {
+            0
+        }
+    }),
+    ("stops at the ends of 24 bits", |last, new| {
+        (new - last).clamp(-HALF_RANGE, HALF_RANGE - 1)
+    }),
+    // The same again, in the upper 24 bits of 32.
+    ("stops at the ends of 32 bits", |last, new| {
+        (new << 8).saturating_sub(last << 8) >> 8
+    }),
+    ("left in the upper 24 bits of 32", |last, new| {
+        (new << 8).wrapping_sub(last << 8)
+    }),
+    ("the readings swapped", |last, new| step_by_paper(new, last)),
+    ("the readings added", |last, new| cut_to(24, new + last)),
+    ("the complement of the last added", |last, new| {
+        cut_to(24, new + !last)
+    }),
+    ("the difference of the sizes", |last, new| {
+        new.abs() - last.abs()
+    }),
+    ("the size of the step", |last, new| {
+        step_by_paper(last, new).abs()
+    }),
+    ("the readings halved before", |last, new| {
+        cut_to(24, 2 * ((new >> 1) - (last >> 1)))
+    }),
+    ("the new one without a sign, not folded", |last, new| {
+        without_sign(new) - last
+    }),
+    ("the last one without a sign, not folded", |last, new| {
+        new - without_sign(last)
+    }),
+    ("16-bit halves without a borrow", |last, new| {
+        by_halves(last, new, 0)
+    }),
+    ("16-bit halves, the borrow added", |last, new| {
+        by_halves(last, new, i32::from(new & 0xFFFF < last & 0xFFFF))
+    }),
+    ("16-bit halves, the lower with a sign", |last, new| {
+        let low = i32::from(new as i16) - i32::from(last as i16);
+        cut_to(24, (((new >> 16) - (last >> 16)) << 16) + low)
+    }),
+    ("bytes without a borrow", |last, new| {
+        let (last, new) = (last.to_be_bytes(), new.to_be_bytes());
+        let bytes = std::array::from_fn(|place| new[place].wrapping_sub(last[place]));
+        cut_to(24, i32::from_be_bytes(bytes))
+    }),
+    ("the new reading", |_, new| new),
+    ("none", |_, _| 0),
+];
+
+/// The same, but these go wrong at one of 2^24 steps only, the last one between equal
+/// lower halves: the listed pairs and the edge steps of the generated ones are for them.
+const SELDOM_WRONG_STEPS: [(&str, Step); 9] = [
+    ("half the range is 8388608", |last, new| {
+        at_difference(last, new, &[HALF_RANGE, -HALF_RANGE], HALF_RANGE)
+    }),
+    ("half the range stays above", |last, new| {
+        at_difference(last, new, &[HALF_RANGE], HALF_RANGE)
+    }),
+    ("half the range is folded from below", |last, new| {
+        at_difference(last, new, &[-HALF_RANGE], HALF_RANGE)
+    }),
+    ("half the range is no step", |last, new| {
+        at_difference(last, new, &[HALF_RANGE, -HALF_RANGE], 0)
+    }),
+    ("half the range is -8388607", |last, new| {
+        step_by_paper(last, new).max(-8_388_607)
+    }),
+    (
+        "modulo 2^24, brought in from 8388607 on",
+        |last, new| match (new - last).rem_euclid(WHOLE_RANGE) {
+            modulo if modulo >= 8_388_607 => modulo - WHOLE_RANGE,
+            modulo => modulo,
+        },
+    ),
+    ("folded from 8388607 on", |last, new| {
+        at_difference(last, new, &[8_388_607], 8_388_607 - WHOLE_RANGE)
+    }),
+    ("folded below -8388609", |last, new| {
+        at_difference(last, new, &[-8_388_609], -8_388_609)
+    }),
+    ("16-bit halves, a borrow between equal ones", |last, new| {
+        by_halves(last, new, -i32::from(new & 0xFFFF <= last & 0xFFFF))
+    }),
+];
+
+/// The total behind the step, from the one before it.
+type Sum = fn(i64, i32) -> i64;
+
+/// Totals that a careless writing of 2.4 gives although the step is right. They are
+/// told from the right ones as in `WRONG_STEPS`.
+const WRONG_SUMS: [(&str, Sum); 7] = [
+    ("a total of 32 bits", |total, step| {
+        i64::from((total as i32).wrapping_add(step))
+    }),
+    (
+        "a total that stops at the ends of 32 bits",
+        |total, step| (total + i64::from(step)).clamp(i32::MIN.into(), i32::MAX.into()),
+    ),
+    ("a total that is folded, too", |total, step| {
+        i64::from(cut_to(24, (total as i32).wrapping_add(step)))
+    }),
+    ("the step widened without its sign", |total, step| {
+        total + i64::from(step as u32)
+    }),
+    ("no carry from the lower 32 bits", |total, step| {
+        total >> 32 << 32 | i64::from((total as u32).wrapping_add(step as u32))
+    }),
+    ("the step taken away", |total, step| total - i64::from(step)),
+    ("the step alone", |_, step| i64::from(step)),
+];
+
+/// The lowest bits of a number, the uppermost of them for its sign.
+fn cut_to(bits: u32, number: i32) -> i32 {
+    number << (32 - bits) >> (32 - bits)
+}
+
+fn from_above(number: i32) -> i32 {
+    if number >= HALF_RANGE {
+        number - WHOLE_RANGE
+    } else {
+        number
+    }
+}
+
+fn from_below(number: i32) -> i32 {
+    if number < -HALF_RANGE {
+        number + WHOLE_RANGE
+    } else {
+        number
+    }
+}
+
+/// The 24 bits of a reading as a number from 0 on.
+fn without_sign(reading: i32) -> i32 {
+    reading & 0xFF_FFFF
+}
+
+/// The lower 16 bits and the upper ones subtracted for themselves, and a borrow of
+/// the upper ones.
+fn by_halves(last: i32, new: i32, borrow: i32) -> i32 {
+    let low = (new & 0xFFFF) - (last & 0xFFFF) & 0xFFFF;
+    let high = (new >> 16) - (last >> 16) + borrow;
+    cut_to(24, high << 16 | low)
+}
+
+/// The right step, but another one at some differences.
+fn at_difference(last: i32, new: i32, differences: &[i32], other: i32) -> i32 {
+    if differences.contains(&(new - last)) {
+        other
+    } else {
+        step_by_paper(last, new)
+    }
+}
+
+/// An answer in which the totals of some axes are moved by a rule.
+fn moved_by(
+    fed: &Fed,
+    places: Range<usize>,
+    step: impl Fn(i32, i32) -> i32,
+    sum: impl Fn(i64, i32) -> i64,
+) -> Answer {
+    let mut other = fed.answer;
+    for place in places {
+        let (group, axis) = (place / 3, place % 3);
+        let (last, new) = fed.pair(place);
+        let total = sum(fed.before.axes[group][axis].total, step(last, new));
+        let shift = fed.before.setup.shifts[group];
+        other.session.axes[group][axis].total = total;
+        other.datagram.totals[group][axis].steps = total;
+        other.datagram.totals[group][axis].double = double_of(total, shift);
+    }
+    other
+}
+
+/// How many of these calls are printed otherwise if a rule moves some axes.
+fn times_told_apart(all_fed: &[Fed], places: Range<usize>, step: Step, sum: Sum) -> usize {
+    let is_other = |fed: &&Fed| {
+        let other = moved_by(fed, places.clone(), step, sum);
+        feed_text(&other) != feed_text(&fed.answer)
+    };
+    all_fed.iter().filter(is_other).count()
+}
+
+fn right_sum(total: i64, step: i32) -> i64 {
+    total + i64::from(step)
+}
+
+fn wrong_steps() {
+    let listed = fed_listed();
+    let generated = [1, 2, 3].map(|seed| fed_generated(seed, 200));
+    for fed in listed.iter().chain(generated.iter().flatten()) {
+        assert_eq!(moved_by(fed, 0..9, step_by_paper, right_sum), fed.answer);
+    }
+    let by_listed = |name: &str, step: Step, sum: Sum| {
+        for place in 0..9 {
+            let times = times_told_apart(&listed, place..place + 1, step, sum);
+            assert!(times > 0, "listed, axis {place}: {name}");
+        }
+    };
+    let by_generated = |name: &str, step: Step, sum: Sum| {
+        for fed in &generated {
+            let times = times_told_apart(fed, 0..9, step, sum);
+            assert!(times > 0, "generated: {name}");
+        }
+    };
+    for (name, step) in WRONG_STEPS.into_iter().chain(SELDOM_WRONG_STEPS) {
+        by_listed(name, step, right_sum);
+        by_generated(name, step, right_sum);
+    }
+    for (name, sum) in WRONG_SUMS {
+        by_listed(name, step_by_paper, sum);
+        by_generated(name, step_by_paper, sum);
+    }
+    let wrong = WRONG_STEPS.len() + SELDOM_WRONG_STEPS.len() + WRONG_SUMS.len();
+    let different = different_steps() + WRONG_SUMS.len();
+    println!("{wrong} wrong rules of the step, {different} of them different, told apart");
+}
+
+/// How many of the wrong steps are different between extreme readings.
+fn different_steps() -> usize {
+    let rules = WRONG_STEPS.iter().chain(&SELDOM_WRONG_STEPS);
+    let steps_by = |step: &Step| {
+        let from = |last: i32| EXTREME_READINGS.map(|new| step(last, new));
+        EXTREME_READINGS.map(from)
+    };
+    let different: HashSet<_> = rules.map(|(_, step)| steps_by(step)).collect();
+    different.len()
 }
 
 // ---------------------------------------------------------- plain against fast
