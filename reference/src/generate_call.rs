@@ -519,8 +519,8 @@ fn forge(random: &mut Random, session: &mut Session) {
 
 // ---------------------------------------------------------------------- steps
 
-/// Steps at which a careless fold goes wrong: half the range, one less and one more,
-/// and one that leaves the lower 16 bits of a reading as they are.
+/// Steps at which a careless fold goes wrong: half the range, one less, one more, and
+/// a short one that leaves the lower 16 bits as they are, as half the range does.
 const EDGE_STEPS: [i32; 4] = [8_388_607, 8_388_608, 8_388_609, 65_536];
 
 /// Calls of feed for the step from one reading to the next (02, 2.4), as many as
@@ -533,7 +533,7 @@ pub fn feeds_of_reading_pairs(seed: u64, count: u64) -> impl Iterator<Item = Cal
 /// A session that holds no bytes and whose nine axes have begun, and as its piece a
 /// whole datagram in which all is fit.
 fn feed_of_reading_pairs(seed: u64, number: u64) -> Call {
-    let random = &mut Random::for_case(seed.rotate_left(48), number);
+    let random = &mut Random::for_case(seed.rotate_left(8), number);
     let setup = integrated_setup(random);
     let mut session = open_session(&setup).expect("the setup is good");
     count_datagrams(random, &mut session);

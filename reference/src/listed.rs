@@ -679,7 +679,8 @@ const EXTREME_READINGS: [i32; 13] = [
     8_388_600, 8_388_606, 8_388_607,
 ];
 
-/// From one axis to the next the pairs of a call are so many further in their list.
+/// The pair of an axis stands so many places behind that of the axis before it, in
+/// the list of the pairs.
 const PAIRS_APART: usize = 19;
 
 /// Calls of feed for the step from one reading to the next (02, 2.4): each of the

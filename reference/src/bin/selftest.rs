@@ -1870,17 +1870,18 @@ fn generated_steps() {
     let pairs: Vec<(i32, i32)> = generated.iter().flat_map(pairs_of).collect();
     generated_readings(pairs.iter().map(|pair| pair.0));
     generated_readings(pairs.iter().map(|pair| pair.1));
-    // A quarter of 32,000 and half of the 4,000 edge steps are expected.
-    let is_wrap = |&&(last, new): &&(i32, i32)| (new - last).abs() >= HALF_RANGE;
-    let wraps = pairs.iter().filter(is_wrap).count();
-    assert!((9_700..10_300).contains(&wraps), "{wraps}");
-    // And a quarter of the edge steps, half of these upwards.
+    // A quarter of 32,000 and three eighths of the 4,000 edge steps are expected.
+    let is_folded =
+        |&&(last, new): &&(i32, i32)| !(-HALF_RANGE..HALF_RANGE).contains(&(new - last));
+    let folded = pairs.iter().filter(is_folded).count();
+    assert!((9_200..9_800).contains(&folded), "{folded}");
+    // Half the range is a quarter of the edge steps, upwards as often as downwards.
     for half_range in [HALF_RANGE, -HALF_RANGE] {
         let is_half = |&&(last, new): &&(i32, i32)| new - last == half_range;
         let halves = pairs.iter().filter(is_half).count();
         assert!((400..600).contains(&halves), "{halves}");
     }
-    println!("36000 generated pairs of readings, {wraps} of them wrap");
+    println!("36000 generated pairs of readings, {folded} of them folded");
 }
 
 /// 6 rates, 4 identifiers and 2 terminations, and 32 shifts of each group.
@@ -1915,8 +1916,10 @@ fn step_by_paper(last: i32, new: i32) -> i32 {
     steps.find(in_range).expect("one of three is in the range")
 }
 
-/// 2^24 and 2^23.
+/// 2^24.
 const WHOLE_RANGE: i32 = 16_777_216;
+
+/// 2^23.
 const HALF_RANGE: i32 = 8_388_608;
 
 /// The step from the last reading to the new one.
@@ -1925,13 +1928,9 @@ type Step = fn(i32, i32) -> i32;
 /// Rules of the step that a careless writing of 2.4 gives. What is printed of the
 /// listed calls tells each from the right one, on each of the nine axes alone, and
 /// so does what is printed of 200 generated ones of three seeds.
-const WRONG_STEPS: [(&str, Step); 38] = [
+const WRONG_STEPS: [(&str, Step); 33] = [
+    // So is the remainder by 2^24 that keeps the sign, and modulo 2^25.
     ("not folded", |last, new| new - last),
-    // As the difference is less than 2^24 in size, these two are the same again.
-    ("the remainder by 2^24 that keeps the sign", |last, new| {
-        (new - last) % WHOLE_RANGE
-    }),
-    ("modulo 2^25", |last, new| cut_to(25, new - last)),
     ("modulo 2^25, brought in by 2^24", |last, new| {
         from_above((new - last).rem_euclid(2 * WHOLE_RANGE))
     }),
@@ -1958,11 +1957,6 @@ const WRONG_STEPS: [(&str, Step); 38] = [
     }),
     ("modulo 2^16", |last, new| cut_to(16, new - last)),
     ("folded from above only", |last, new| from_above(new - last)),
-    // The same again, as a remainder that keeps the sign.
-    (
-        "half the range added before and taken after",
-        |last, new| (new - last + HALF_RANGE) % WHOLE_RANGE - HALF_RANGE,
-    ),
     ("folded from below only", |last, new| from_below(new - last)),
     ("folded the wrong way", |last, new| {
         2 * (new - last) - step_by_paper(last, new)
@@ -1980,10 +1974,6 @@ const WRONG_STEPS: [(&str, Step); 38] = [
         let are_unlike = (new < 0) != (last < 0);
         let folding = if are_unlike { WHOLE_RANGE } else { 0 };
         new - last - folding * (new - last).signum()
-    }),
-    // The same again.
-    ("both readings without a sign, not folded", |last, new| {
-        without_sign(new) - without_sign(last)
     }),
     ("folded between the outer quarters only", |last, new| {
         let quarter = HALF_RANGE / 2;
@@ -2003,10 +1993,6 @@ const WRONG_STEPS: [(&str, Step); 38] = [
     }),
     ("stops at the ends of 24 bits", |last, new| {
         (new - last).clamp(-HALF_RANGE, HALF_RANGE - 1)
-    }),
-    // The same again, in the upper 24 bits of 32.
-    ("stops at the ends of 32 bits", |last, new| {
-        (new << 8).saturating_sub(last << 8) >> 8
     }),
     ("left in the upper 24 bits of 32", |last, new| {
         (new << 8).wrapping_sub(last << 8)
@@ -2214,12 +2200,12 @@ fn wrong_steps() {
         by_listed(name, step_by_paper, sum);
         by_generated(name, step_by_paper, sum);
     }
-    let wrong = WRONG_STEPS.len() + SELDOM_WRONG_STEPS.len() + WRONG_SUMS.len();
-    let different = different_steps() + WRONG_SUMS.len();
-    println!("{wrong} wrong rules of the step, {different} of them different, told apart");
+    let wrong = different_steps() + WRONG_SUMS.len();
+    println!("{wrong} wrong rules of the step told apart");
 }
 
-/// How many of the wrong steps are different between extreme readings.
+/// How many wrong steps there are. No two of them are the same between all extreme
+/// readings.
 fn different_steps() -> usize {
     let rules = WRONG_STEPS.iter().chain(&SELDOM_WRONG_STEPS);
     let steps_by = |step: &Step| {
@@ -2227,6 +2213,10 @@ fn different_steps() -> usize {
         EXTREME_READINGS.map(from)
     };
     let different: HashSet<_> = rules.map(|(_, step)| steps_by(step)).collect();
+    assert_eq!(
+        different.len(),
+        WRONG_STEPS.len() + SELDOM_WRONG_STEPS.len()
+    );
     different.len()
 }
 

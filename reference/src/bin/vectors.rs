@@ -55,7 +55,7 @@ fn asked_for<'a>(words: &[&'a str]) -> Option<(Calls, &'a str)> {
     }
 }
 
-/// Writes each call as it comes, so that a long run of pairs takes no memory.
+/// Writes each call as it comes, so that a long run of pairs takes little memory.
 fn write(calls: Calls, prefix: &str) -> io::Result<()> {
     let mut input = BufWriter::new(File::create(format!("{prefix}.in"))?);
     let mut expected = BufWriter::new(File::create(format!("{prefix}.out"))?);

@@ -42,12 +42,13 @@ module _ (x : ℤ) (f : SFits w32 x) (h : 0 < negPart x) where
   one-more =
       parts-ext (near +ℤ pos 1) sum (omega (arith, add-parts near (pos 1), add-parts x (pos 2147483647), add-parts x (pos 2147483648)))
 
-  step : toZ w32 (ofZ w32 (toZ w32 (ofZ w32 x) +ℤ pos 2147483647)) +ℤ pos 1 ≡ sum
+  -- the sum as the code has it, and as it is read back
+  added : toZ w32 (ofZ w32 (toZ w32 (ofZ w32 x) +ℤ pos 2147483647)) +ℤ pos 1 ≡ sum
   unfolding near
-  step = simp (toZ-ofZ w32 x f, toZ-ofZ w32 near near-fits) one-more
+  added = simp (toZ-ofZ w32 x f, toZ-ofZ w32 near near-fits) one-more
 
-  back : toZ w32 (ofZ w32 (toZ w32 (ofZ w32 (toZ w32 (ofZ w32 x) +ℤ pos 2147483647)) +ℤ pos 1)) ≡ sum
-  back = read-back w32 step sum-fits
+  read : toZ w32 (ofZ w32 (toZ w32 (ofZ w32 (toZ w32 (ofZ w32 x) +ℤ pos 2147483647)) +ℤ pos 1)) ≡ sum
+  read = read-back w32 added sum-fits
 
 is-below : (c : tie.Then1) → 0 < negPart (c .before .args .x)
 is-below c = let h = below-taken w32 (c .before .args .x) _ (c .before .fits .x) (c .if1 .taken) in omega arith
@@ -66,7 +67,7 @@ add-result-2 : tie.Need-add-result-2
 add-result-2 c =
     let x = c .before .args .x in
     let f = c .before .fits .x in
-    sfits-by (step x f (is-below c)) (sum-fits x f (is-below c))
+    sfits-by (added x f (is-below c)) (sum-fits x f (is-below c))
 
 cast-result : tie.Need-cast-result
 cast-result c =
@@ -74,7 +75,7 @@ cast-result c =
     let f = c .before .fits .x in
     let p = sum-parts x f (is-below c) in
     let y = sum x f (is-below c) in
-    rw (back x f (is-below c)) (nonneg-of-parts y (p .0), omega (arith, natAbs-parts y))
+    rw (read x f (is-below c)) (nonneg-of-parts y (p .0), omega (arith, natAbs-parts y))
 
 cast-result-2 : tie.Need-cast-result-2
 cast-result-2 c =
@@ -95,7 +96,7 @@ unfolding sum
 returns c =
     let x = c .before .args .x in
     let f = c .before .fits .x in
-    rw (back x f (is-below c)) (natAbs-nonneg (sum x f (is-below c)) (sum-parts x f (is-below c) .0))
+    rw (read x f (is-below c)) (natAbs-nonneg (sum x f (is-below c)) (sum-parts x f (is-below c) .0))
 
 returns-2 : tie.Need-returns-2
 returns-2 c =
