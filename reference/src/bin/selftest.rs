@@ -1929,7 +1929,7 @@ type Step = fn(i32, i32) -> i32;
 /// listed calls tells each from the right one, on each of the nine axes alone, and
 /// so does what is printed of 200 generated ones of three seeds.
 const WRONG_STEPS: [(&str, Step); 33] = [
-    // So is the remainder by 2^24 that keeps the sign, and modulo 2^25.
+    // The remainder by 2^24 that keeps the sign is the same rule, and so is modulo 2^25.
     ("not folded", |last, new| new - last),
     ("modulo 2^25, brought in by 2^24", |last, new| {
         from_above((new - last).rem_euclid(2 * WHOLE_RANGE))
@@ -2200,24 +2200,18 @@ fn wrong_steps() {
         by_listed(name, step_by_paper, sum);
         by_generated(name, step_by_paper, sum);
     }
-    let wrong = different_steps() + WRONG_SUMS.len();
+    no_wrong_step_twice();
+    let wrong = WRONG_STEPS.len() + SELDOM_WRONG_STEPS.len() + WRONG_SUMS.len();
     println!("{wrong} wrong rules of the step told apart");
 }
 
-/// How many wrong steps there are. No two of them are the same between all extreme
-/// readings.
-fn different_steps() -> usize {
-    let rules = WRONG_STEPS.iter().chain(&SELDOM_WRONG_STEPS);
-    let steps_by = |step: &Step| {
+/// No two of the wrong steps are the same between all extreme readings.
+fn no_wrong_step_twice() {
+    let mut seen = HashSet::new();
+    for (name, step) in WRONG_STEPS.into_iter().chain(SELDOM_WRONG_STEPS) {
         let from = |last: i32| EXTREME_READINGS.map(|new| step(last, new));
-        EXTREME_READINGS.map(from)
-    };
-    let different: HashSet<_> = rules.map(|(_, step)| steps_by(step)).collect();
-    assert_eq!(
-        different.len(),
-        WRONG_STEPS.len() + SELDOM_WRONG_STEPS.len()
-    );
-    different.len()
+        assert!(seen.insert(EXTREME_READINGS.map(from)), "twice: {name}");
+    }
 }
 
 // ---------------------------------------------------------- plain against fast
