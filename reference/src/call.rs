@@ -22,7 +22,8 @@
 //! A setup is rate (2 bytes), identifier (1), termination (2), three units (2
 //! each), three shifts (2 each). A session is the setup; 64 held bytes, their
 //! count (8), datagrams (8), bytes passed over (8), bytes fed (8), previous
-//! counter (1); nine axes of a begun mark, a last reading (4) and a total (8).
+//! counter (1); nine axes of a begun mark, a last reading (4) and a total (8); of
+//! gyro X, Y and Z a sum of internal samples (4) and a mark (02, 2.5).
 //!
 //! The text has these lines, numbers in decimal, doubles as the hexadecimal
 //! number that their 64 bits are:
@@ -42,11 +43,13 @@
 //! * `record N rehearsal A`, A `too long`, `other count`, `no number`, or `values`
 //!   and the 28 values in the order of a datagram to write
 //! * `session` and: setup, the 64 held bytes in hexadecimal, count, datagrams,
-//!   passed over, fed, previous counter, nine axes (begun, last, total)
+//!   passed over, fed, previous counter, nine axes (begun, last, total), three pairs
+//!   for gyro X, Y and Z (sum, mark)
 //! * `datagram` and: nine readings, three statuses, nine temperatures and their
 //!   three statuses, AUX and its status, counter, latency, flagged channels of
 //!   three groups, nine judgements, of each group its unit and three doubles,
-//!   missed or `?`, nine totals (begun, steps), nine doubles of totals
+//!   missed or `?`, nine totals (begun, steps), nine doubles of totals, the marks of
+//!   the totals of gyro X, Y and Z
 //!
 //! A judgement is one of the words `fit`, `integrity`, `start-up`, `error` and
 //! `overload` (02, 2.3). Where there are nine of something, it is X, Y, Z of the
@@ -120,6 +123,10 @@ fn session_bytes(session: &Session) -> Vec<u8> {
         bytes.push(u8::from(axis.begun));
         bytes.extend(axis.last_fit_reading.to_le_bytes());
         bytes.extend(axis.total.to_le_bytes());
+    }
+    for doubt in session.doubts {
+        bytes.extend(doubt.sum.to_le_bytes());
+        bytes.push(u8::from(doubt.marked));
     }
     bytes
 }
@@ -297,7 +304,8 @@ fn setup_words(setup: &Setup) -> Vec<String> {
     numbers.iter().map(u32::to_string).collect()
 }
 
-fn session_text(session: &Session) -> String {
+/// The session that came back with an answer.
+pub fn session_text(session: &Session) -> String {
     let mut words = vec!["session".to_string()];
     words.extend(setup_words(&session.setup));
     words.push(hexadecimal(&session.held));
@@ -310,6 +318,10 @@ fn session_text(session: &Session) -> String {
         words.push(mark_text(axis.begun));
         words.push(axis.last_fit_reading.to_string());
         words.push(axis.total.to_string());
+    }
+    for doubt in session.doubts {
+        words.push(doubt.sum.to_string());
+        words.push(mark_text(doubt.marked));
     }
     words.join(" ") + "\n"
 }
@@ -349,6 +361,7 @@ fn datagram_text(datagram: &Datagram) -> String {
     for total in datagram.totals.iter().flatten() {
         words.push(bits_text(total.double));
     }
+    words.extend(datagram.doubtful.map(mark_text));
     words.join(" ") + "\n"
 }
 

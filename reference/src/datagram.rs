@@ -1,5 +1,5 @@
 //! One datagram: whether bytes make one up, its fields, and 01, "Status,
-//! doubles, gaps" and "Totals", with 02, 2.2 and 2.3.
+//! doubles, gaps" and "Totals", with 02, 2.2, 2.3 and 2.5.
 
 use crate::check::check_of;
 use crate::layout::{datagram_length, layout_of};
@@ -92,11 +92,14 @@ pub struct Datagram {
     pub judgements: [[Judgement; 3]; 3],
     pub gap: Gap,
     pub totals: [[Total; 3]; 3],
+    /// Whether the totals of gyro X, Y and Z are marked as doubtful (02, 2.5); not so
+    /// while a total hasn't begun or where none is kept.
+    pub doubtful: [bool; 3],
 }
 
 impl Datagram {
-    /// What stands in an answer that hands out no datagram: zeros, unit 0 and
-    /// every axis fit.
+    /// What stands in an answer that hands out no datagram: zeros, unit 0, every axis
+    /// fit and no mark.
     pub const ZEROS: Datagram = Datagram {
         fields: Fields::ZEROS,
         values: [GroupValues::Instantaneous([0.0; 3]); 3],
@@ -104,6 +107,7 @@ impl Datagram {
         judgements: [[Judgement::Fit; 3]; 3],
         gap: Gap::Missed(0),
         totals: [[Total::NOT_BEGUN; 3]; 3],
+        doubtful: [false; 3],
     };
 }
 
@@ -268,18 +272,23 @@ pub fn group_values(unit: u32, shift: u32, readings: [i32; 3]) -> GroupValues {
     }
 }
 
-/// The gap between two counters: with step s = 2000 / rate and d = new minus
-/// previous, modulo 256, a d of 0 read as 256, missed is d / s - 1 if s divides
-/// d. External trigger (rate 0) gives missed 0.
+/// The internal samples d between two counters: new minus previous, modulo 256, a
+/// d of 0 read as 256.
+pub fn samples_between(previous_counter: u8, new_counter: u8) -> u32 {
+    match (256 + u32::from(new_counter) - u32::from(previous_counter)) % 256 {
+        0 => 256,
+        samples => samples,
+    }
+}
+
+/// The gap between two counters: with step s = 2000 / rate, missed is d / s - 1 if
+/// s divides d. External trigger (rate 0) gives missed 0.
 pub fn gap_between(rate: u32, previous_counter: u8, new_counter: u8) -> Gap {
     if rate == 0 {
         return Gap::Missed(0);
     }
     let step = 2000 / u64::from(rate);
-    let mut samples = (256 + u64::from(new_counter) - u64::from(previous_counter)) % 256;
-    if samples == 0 {
-        samples = 256;
-    }
+    let samples = u64::from(samples_between(previous_counter, new_counter));
     if samples % step == 0 {
         Gap::Missed(samples / step - 1)
     } else {

@@ -9,14 +9,18 @@ use crate::generate::{
     any_reading, doubtful_setup_line, error_status, folded, setup_of_case, several_status, stream,
 };
 use crate::generate_make;
+use crate::generate_sums;
 use crate::layout::{datagram_length, layout_of};
 use crate::line::{judge_line, text_of, Line};
 use crate::listed;
+use crate::listed_sums;
 use crate::random::Random;
-use crate::session::{feed, keeps_totals, open_session, Axis, Session, MOST_HELD};
+use crate::session::{
+    feed, keeps_totals, open_session, Axis, Doubt, Session, MOST_HELD, MOST_SAMPLES,
+};
 use crate::setup::{setup_line, Setup, INTEGRATED};
 use crate::whole_piece::{lines_of, ROOM_FOR_LINES};
-use crate::{HIGHEST_READING, LOWEST_READING, PIECE_LIMIT, STREAM_LIMIT};
+use crate::{GYRO, HIGHEST_READING, LOWEST_READING, PIECE_LIMIT, STREAM_LIMIT};
 
 /// The longest buffer that a line record lends.
 const LONGEST_BUFFER: usize = 400;
@@ -38,6 +42,7 @@ pub fn stored_calls() -> Vec<Call> {
         listed::feeds_of_every_status(),
         listed::judged_feeds(),
         listed::feeds_of_extreme_pairs(),
+        listed_sums::calls(),
     ];
     let mut seen = HashSet::new();
     for call in listed_cases.chain(listed_streams.into_iter().flatten()) {
@@ -54,9 +59,12 @@ pub fn stored_calls() -> Vec<Call> {
 
 /// The first `count` calls of a seed, of every kind.
 pub fn calls(seed: u64, count: usize) -> Vec<Call> {
-    first_calls(count, |number, calls| match number % 5 {
-        3 => add_make_case(seed, number / 5, calls),
+    // Seven in turn: no divisor of 32, so that each kind has every setup of the cases.
+    first_calls(count, |number, calls| match number % 7 {
+        3 => add_make_case(seed, number / 7, calls),
         4 => add_lines_case(seed, number, calls),
+        5 => generate_sums::add_case(seed, 2 * (number / 7), calls),
+        6 => generate_sums::add_case(seed, 2 * (number / 7) + 1, calls),
         _ => add_single_case(seed, number, calls),
     })
 }
@@ -119,7 +127,7 @@ fn add_stream_of_lines(random: &mut Random, setup: &Setup, calls: &mut Vec<Call>
 
 /// A whole piece in a buffer that is long enough for any lines, about as long
 /// as these, or far shorter.
-fn whole_piece(random: &mut Random, session: Session, piece: Vec<u8>) -> Call {
+pub fn whole_piece(random: &mut Random, session: Session, piece: Vec<u8>) -> Call {
     let exact = lines_of(&session, &piece).map_or(0, |(lines, _)| lines.len());
     let room = match random.below(12) {
         0..=2 => random.between(ROOM_FOR_LINES - 1, ROOM_FOR_LINES + 1),
@@ -299,19 +307,32 @@ fn far_session(random: &mut Random, setup: &Setup, size: usize) -> (Session, Vec
         _ => left - (random.next() >> random.between(30, 63)).min(left),
     };
     session.passed_over = left.saturating_sub(lacking);
-    session.bytes_fed = sum_of(&session);
-    for group in 0..3 {
-        for axis in 0..3 {
-            if keeps_totals(setup, group) && !random.one_in(4) {
-                session.axes[group][axis] = begun_axis(random, session.datagrams);
-            }
-        }
+    session.bytes_fed = byte_sum(&session);
+    // No axis begins before the first datagram.
+    if session.datagrams > 0 {
+        begin_axes(random, &mut session);
     }
     (session, piece)
 }
 
+/// Most of the axes that keep totals have begun; those of the gyro have any sums and
+/// marks (02, 2.5).
+fn begin_axes(random: &mut Random, session: &mut Session) {
+    for group in (0..3).filter(|&group| keeps_totals(&session.setup, group)) {
+        for axis in 0..3 {
+            if random.one_in(4) {
+                continue;
+            }
+            session.axes[group][axis] = begun_axis(random, session.datagrams);
+            if group == GYRO {
+                session.doubts[axis] = generate_sums::any_doubt(random);
+            }
+        }
+    }
+}
+
 /// L * datagrams + passed over + held, wrapped.
-fn sum_of(session: &Session) -> u64 {
+pub fn byte_sum(session: &Session) -> u64 {
     let length = datagram_length(&session.setup).unwrap_or(0) as u64;
     length
         .wrapping_mul(session.datagrams)
@@ -320,7 +341,7 @@ fn sum_of(session: &Session) -> u64 {
 }
 
 /// An axis that so many datagrams can leave.
-fn begun_axis(random: &mut Random, datagrams: u64) -> Axis {
+pub fn begun_axis(random: &mut Random, datagrams: u64) -> Axis {
     let most = (datagrams as i64) << 23;
     let any = (random.next() >> random.between(1, 63)) as i64;
     let total = random.pick(&[0, most, most - 1, any, any]).clamp(0, most);
@@ -356,7 +377,7 @@ fn datagram_bytes(random: &mut Random, setup: &Setup) -> Vec<u8> {
             fields.readings[group][axis] = reading(random);
             fields.temperatures[group][axis] = random.next() as i16;
         }
-        fields.statuses[group] = status(random);
+        fields.statuses[group] = any_status(random);
         fields.temperature_statuses[group] = random.byte();
     }
     fields.auxiliary = reading(random);
@@ -372,7 +393,8 @@ fn datagram_bytes(random: &mut Random, setup: &Setup) -> Vec<u8> {
     bytes
 }
 
-fn status(random: &mut Random) -> u8 {
+/// Any status: fit, errors with and without axes named, several bits at once.
+pub fn any_status(random: &mut Random) -> u8 {
     let any = random.byte();
     let axes = random.below(8) as u8;
     let error = error_status(random);
@@ -406,12 +428,12 @@ fn forge(random: &mut Random, session: &mut Session) {
             .unwrap_or(group);
     }
     let axis = random.below(3);
-    match random.below(13) {
+    match random.below(16) {
         // The setup would be refused.
         0 => {
             spoil_setup(random, &mut session.setup);
             if random.one_in(2) {
-                session.bytes_fed = sum_of(session);
+                session.bytes_fed = byte_sum(session);
             }
         }
         // The held bytes don't begin with the identifier.
@@ -442,7 +464,7 @@ fn forge(random: &mut Random, session: &mut Session) {
                 session.held[shown..].fill(0);
             }
             if !random.one_in(4) {
-                session.bytes_fed = sum_of(session);
+                session.bytes_fed = byte_sum(session);
             }
         }
         // They aren't zero beyond their count.
@@ -473,14 +495,14 @@ fn forge(random: &mut Random, session: &mut Session) {
                 2 => session.passed_over = end_of_u64,
                 _ => session.datagrams = end_of_u64,
             }
-            session.bytes_fed = sum_of(session);
+            session.bytes_fed = byte_sum(session);
         }
         // The sum is right and about 2^34, or well above it.
         9 => {
             let over = random.pick(&[0, 0, 1, 1, 2, 18, 4096, 1 << 20, 1 << 34, 1 << 62]);
-            let other = sum_of(session).wrapping_sub(session.passed_over);
+            let other = byte_sum(session).wrapping_sub(session.passed_over);
             session.passed_over = (STREAM_LIMIT + over).wrapping_sub(other);
-            session.bytes_fed = sum_of(session);
+            session.bytes_fed = byte_sum(session);
         }
         // A total is datagrams * 2^23 in size, or exceeds it.
         10 => {
@@ -505,13 +527,42 @@ fn forge(random: &mut Random, session: &mut Session) {
             axis.begun |= !random.one_in(4);
         }
         // An axis not begun, or keeping no total, isn't all zero.
-        _ => {
-            let axis = &mut session.axes[group][axis];
+        12 => {
+            let kept = &mut session.axes[group][axis];
             match random.below(4) {
-                0 => axis.begun = !axis.begun,
-                1 => axis.last_fit_reading = random.pick(&[1, -1, HIGHEST_READING]),
-                2 => axis.total = random.pick(&[1, -1, 8_388_608]),
-                _ => *axis = Axis::ZEROS,
+                0 => kept.begun = !kept.begun,
+                1 => kept.last_fit_reading = random.pick(&[1, -1, HIGHEST_READING]),
+                2 => kept.total = random.pick(&[1, -1, 8_388_608]),
+                _ => {
+                    *kept = Axis::ZEROS;
+                    if group == GYRO {
+                        session.doubts[axis] = Doubt::NONE;
+                    }
+                }
+            }
+        }
+        _ => forge_doubt(random, session, axis),
+    }
+}
+
+/// Breaks a clause of 02, 2.5, or goes just up to it.
+fn forge_doubt(random: &mut Random, session: &mut Session, axis: usize) {
+    let doubt = &mut session.doubts[axis];
+    match random.below(4) {
+        // A sum is 65,535, or above it.
+        0 => {
+            let any = random.next() as u32;
+            doubt.sum = random.pick(&[MOST_SAMPLES, MOST_SAMPLES + 1, 1 << 31, u32::MAX, any]);
+        }
+        // A gyro axis, begun or not, has a sum or a mark.
+        1 => doubt.sum = random.pick(&[1, 16, 17]),
+        2 => doubt.marked = !doubt.marked,
+        // The next datagram counts as a first one, whatever has begun.
+        _ => {
+            session.datagrams = 0;
+            session.bytes_fed = byte_sum(session);
+            for axis in session.axes.iter_mut().flatten() {
+                axis.total = 0;
             }
         }
     }
@@ -544,6 +595,7 @@ fn feed_of_reading_pairs(seed: u64, number: u64) -> Call {
             ..begun_axis(random, session.datagrams)
         };
     }
+    session.doubts = [0; 3].map(|_| generate_sums::any_doubt(random));
     let mut fields = fit_fields(random);
     let place = number as usize % 9;
     let last = session.axes[place / 3][place % 3].last_fit_reading;
@@ -565,7 +617,7 @@ fn integrated_setup(random: &mut Random) -> Setup {
 
 /// Datagrams, one at least, and bytes passed over, so that another datagram has
 /// room in the stream.
-fn count_datagrams(random: &mut Random, session: &mut Session) {
+pub fn count_datagrams(random: &mut Random, session: &mut Session) {
     let length = datagram_length(&session.setup).expect("the setup is good") as u64;
     let most = STREAM_LIMIT / length - 1;
     let wide = random.next() >> random.between(30, 63);
@@ -573,11 +625,11 @@ fn count_datagrams(random: &mut Random, session: &mut Session) {
     let left = STREAM_LIMIT - length * (session.datagrams + 1);
     let wide = random.next() >> random.between(30, 63);
     session.passed_over = random.pick(&[0, wide, left]).min(left);
-    session.bytes_fed = sum_of(session);
+    session.bytes_fed = byte_sum(session);
 }
 
 /// Any fields, but every status is 0.
-fn fit_fields(random: &mut Random) -> Fields {
+pub fn fit_fields(random: &mut Random) -> Fields {
     let mut fields = Fields::ZEROS;
     for group in 0..3 {
         for axis in 0..3 {
@@ -607,7 +659,7 @@ fn line_call(random: &mut Random, good: &Setup) -> Call {
         latency: random.pick(&[0, 9, 10, 65_535, any_latency]),
         gap: Gap::Missed(random.pick(&[0, 0, 1, 15, 255, u64::MAX, any])),
         readings: [[0; 3]; 3],
-        statuses: [status(random), status(random), random.byte()],
+        statuses: [any_status(random), any_status(random), random.byte()],
         totals: [[0; 3]; 3],
         begun: [[false; 3]; 3],
     };

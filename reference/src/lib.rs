@@ -19,10 +19,10 @@
 //! Beside it:
 //!
 //! * [`fast`]: the same program written for speed
-//! * [`random`], [`generate`], [`generate_make`], [`generate_call`]: adversarial
-//!   inputs from a seed
+//! * [`random`], [`generate`], [`generate_make`], [`generate_call`],
+//!   [`generate_sums`]: adversarial inputs from a seed
 //! * [`call`]: single calls of the library as records, with their answers as text
-//! * [`listed`]: calls written by hand, and at their edges
+//! * [`listed`], [`listed_sums`]: calls written by hand, and at their edges
 //! * [`process`]: giving a program its input, and showing what it printed
 
 pub mod call;
@@ -32,9 +32,11 @@ pub mod fast;
 pub mod generate;
 pub mod generate_call;
 pub mod generate_make;
+pub mod generate_sums;
 pub mod layout;
 pub mod line;
 pub mod listed;
+pub mod listed_sums;
 pub mod make;
 pub mod make_program;
 pub mod process;

@@ -224,7 +224,7 @@ fn by_axis<T: std::str::FromStr>(words: &[&str], step: usize) -> [[T; 3]; 3] {
 }
 
 /// A session of a setup that holds nothing and was fed nothing.
-fn fresh(setup: Setup) -> Session {
+pub fn fresh(setup: Setup) -> Session {
     Session {
         setup,
         ..Session::ZEROS
@@ -265,7 +265,7 @@ fn setup_of(words: &[&str]) -> Setup {
 
 // --------------------------------------------------------------- whole pieces
 
-const EXAMPLE: Setup = Setup {
+pub const EXAMPLE: Setup = Setup {
     rate: 1000,
     identifier: 0x90,
     termination: 0,
@@ -466,7 +466,7 @@ fn length_of_lines(session: &Session, piece: &[u8]) -> usize {
 }
 
 /// A session that passed over so many bytes.
-fn passed_over(session: &Session, count: u64) -> Session {
+pub fn passed_over(session: &Session, count: u64) -> Session {
     Session {
         passed_over: count,
         bytes_fed: count,
@@ -489,7 +489,7 @@ fn turn(setup: &Setup, counter: u8, reading: i32) -> Vec<u8> {
 // ------------------------------------------------------------------- statuses
 
 /// Every group carried and integrated, and nothing beside the groups.
-const THREE_GROUPS: Setup = Setup {
+pub const THREE_GROUPS: Setup = Setup {
     rate: 2000,
     identifier: 0x93,
     termination: 0,
@@ -507,7 +507,7 @@ pub fn pieces_of_statuses() -> Vec<Call> {
 
 /// A stream from a fresh session on, each piece with the session that the one
 /// before it leaves.
-fn pieces_of_stream(setup: &Setup, bytes: &[u8]) -> Vec<Call> {
+pub fn pieces_of_stream(setup: &Setup, bytes: &[u8]) -> Vec<Call> {
     let mut calls = Vec::new();
     let mut session = fresh(*setup);
     for piece in bytes.chunks(PIECE_LIMIT) {
@@ -536,7 +536,7 @@ fn every_status() -> Vec<u8> {
 
 /// The fields of a datagram whose readings moved from the one before by `place`
 /// times 1 to 9, up and down in turn: a total moves if its axis is fit, else not.
-fn moved(place: i32, statuses: [u8; 3]) -> Fields {
+pub fn moved(place: i32, statuses: [u8; 3]) -> Fields {
     let distance = place * (place + 1) / 2;
     let mut fields = Fields::ZEROS;
     let readings = fields.readings.iter_mut().flatten();
@@ -659,7 +659,7 @@ fn stream_of(setup: &Setup, statuses: &[[u8; 3]]) -> Vec<u8> {
 
 /// A stream in calls of feed, as many bytes of it as a datagram has in each, with
 /// the session that the call before it leaves; and the session behind the last.
-fn feeds_of_stream(first: Session, bytes: &[u8]) -> (Vec<Call>, Session) {
+pub fn feeds_of_stream(first: Session, bytes: &[u8]) -> (Vec<Call>, Session) {
     let length = datagram_length(&first.setup).expect("a good setup");
     let mut calls = Vec::new();
     let mut session = first;

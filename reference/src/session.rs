@@ -1,15 +1,23 @@
-//! 01, "The scan", "Totals" and refusals 10 to 12: sessions, opened and fed.
+//! 01, "The scan", "Totals" and refusals 10 to 12, with 02, 2.5: sessions, opened
+//! and fed.
 
 use crate::datagram::{
     decode, double_of, flagged_channels, folded_difference, gap_between, group_values,
-    is_acceptable, is_fit, judgement_of, Datagram, Gap, Total,
+    is_acceptable, is_fit, judgement_of, samples_between, Datagram, Fields, Gap, Total,
 };
 use crate::layout::{datagram_length, layout_of};
 use crate::setup::{judge_setup, Setup, INTEGRATED};
-use crate::{Refusal, HIGHEST_READING, LOWEST_READING, PIECE_LIMIT, STREAM_LIMIT};
+use crate::{Refusal, GYRO, HIGHEST_READING, LOWEST_READING, PIECE_LIMIT, STREAM_LIMIT};
 
 /// Held bytes number less than L, and L is 65 at most.
 pub const MOST_HELD: usize = 64;
+
+/// A gyro turns less than half the folding range in so many internal samples, and
+/// in one more it may not (02, 2.5).
+pub const SURE_SAMPLES: u32 = 16;
+
+/// A sum of internal samples stops here (02, 2.5).
+pub const MOST_SAMPLES: u32 = 65_535;
 
 /// What a session keeps of one axis.
 #[derive(Clone, Copy, Debug, PartialEq, Eq)]
@@ -28,6 +36,23 @@ impl Axis {
     };
 }
 
+/// What a session keeps of one gyro axis beside that (02, 2.5). An axis that hasn't
+/// begun, or keeps no total, has none of it.
+#[derive(Clone, Copy, Debug, PartialEq, Eq)]
+pub struct Doubt {
+    /// The internal samples since the axis's last fit datagram.
+    pub sum: u32,
+    /// Whether the total is doubtful, for the rest of the session.
+    pub marked: bool,
+}
+
+impl Doubt {
+    pub const NONE: Doubt = Doubt {
+        sum: 0,
+        marked: false,
+    };
+}
+
 #[derive(Clone, Copy, Debug, PartialEq, Eq)]
 pub struct Session {
     pub setup: Setup,
@@ -40,6 +65,8 @@ pub struct Session {
     /// The counter of the datagram handed out last, fit or not.
     pub previous_counter: u8,
     pub axes: [[Axis; 3]; 3],
+    /// Of gyro X, Y and Z.
+    pub doubts: [Doubt; 3],
 }
 
 impl Session {
@@ -53,6 +80,7 @@ impl Session {
         passed_over: 0,
         previous_counter: 0,
         axes: [[Axis::ZEROS; 3]; 3],
+        doubts: [Doubt::NONE; 3],
     };
 }
 
@@ -74,7 +102,7 @@ pub struct Answer {
     pub taken: usize,
     /// The new session; after a refusal the session as given.
     pub session: Session,
-    /// Zeros, unit 0 and every axis fit where no datagram is handed out.
+    /// Zeros, unit 0, every axis fit and no mark where no datagram is handed out.
     pub datagram: Datagram,
 }
 
@@ -95,7 +123,7 @@ pub fn keeps_totals(setup: &Setup, group: usize) -> bool {
     carried && setup.units[group] == INTEGRATED
 }
 
-/// Refusal 10, clause by clause. Sums are exact.
+/// Refusal 10, clause by clause. The sum of bytes is exact.
 pub fn judge_session(session: &Session) -> Result<(), Refusal> {
     // The session's setup would be refused.
     if judge_setup(&session.setup).is_err() {
@@ -125,22 +153,44 @@ pub fn judge_session(session: &Session) -> Result<(), Refusal> {
     if accounted > u128::from(STREAM_LIMIT) {
         return Err(10);
     }
-    let largest_total = u128::from(session.datagrams) << 23;
     for group in 0..3 {
-        for axis in session.axes[group] {
-            // A total exceeds datagrams * 2^23 in size.
-            if u128::from(axis.total.unsigned_abs()) > largest_total {
-                return Err(10);
-            }
-            // A kept reading is outside 24 bits.
-            if axis.last_fit_reading < LOWEST_READING || axis.last_fit_reading > HIGHEST_READING {
-                return Err(10);
-            }
-            // An axis not begun, or keeping no total, isn't all zero.
-            let may_be_other_than_zero = axis.begun && keeps_totals(&session.setup, group);
-            if !may_be_other_than_zero && axis != Axis::ZEROS {
-                return Err(10);
-            }
+        for axis in 0..3 {
+            judge_axis(session, group, axis)?;
+        }
+    }
+    Ok(())
+}
+
+/// The clauses of refusal 10 about what is kept of one axis.
+fn judge_axis(session: &Session, group: usize, axis: usize) -> Result<(), Refusal> {
+    let kept = session.axes[group][axis];
+    // A total exceeds datagrams * 2^23 in size.
+    let largest_total = u128::from(session.datagrams) << 23;
+    if u128::from(kept.total.unsigned_abs()) > largest_total {
+        return Err(10);
+    }
+    // A kept reading is outside 24 bits.
+    if kept.last_fit_reading < LOWEST_READING || kept.last_fit_reading > HIGHEST_READING {
+        return Err(10);
+    }
+    // An axis not begun, or keeping no total, isn't all zero.
+    let may_be_other_than_zero = kept.begun && keeps_totals(&session.setup, group);
+    if !may_be_other_than_zero && kept != Axis::ZEROS {
+        return Err(10);
+    }
+    // 02, 2.5: an axis has begun while the next datagram counts as a first one.
+    if kept.begun && session.datagrams == 0 {
+        return Err(10);
+    }
+    if group == GYRO {
+        let doubt = session.doubts[axis];
+        // 02, 2.5: a sum is above 65,535.
+        if doubt.sum > MOST_SAMPLES {
+            return Err(10);
+        }
+        // An axis not begun, or keeping no total, has a sum or a mark.
+        if !may_be_other_than_zero && doubt != Doubt::NONE {
+            return Err(10);
         }
     }
     Ok(())
@@ -224,22 +274,30 @@ fn take_byte(session: &mut Session, byte: u8) -> Option<Vec<u8>> {
     found
 }
 
-/// Hands out an acceptable datagram: gap, values and totals by the session,
-/// judgements by the statuses. That of a group not carried is 0: fit.
+/// Hands out an acceptable datagram: gap, totals and their marks by the session,
+/// values by the setup, judgements by the statuses. That of a group not carried is
+/// 0: fit.
 fn hand_out(session: &mut Session, bytes: &[u8]) -> Datagram {
     let setup = session.setup;
     let fields = decode(&setup, bytes);
-    let gap = if session.datagrams == 0 {
-        Gap::Missed(0)
-    } else {
-        gap_between(setup.rate, session.previous_counter, fields.counter)
+    let previous = session.previous_counter;
+    let (gap, samples) = match session.datagrams {
+        // The first datagram has none before it.
+        0 => (Gap::Missed(0), 0),
+        _ => (
+            gap_between(setup.rate, previous, fields.counter),
+            samples_between(previous, fields.counter),
+        ),
     };
     session.datagrams += 1;
     session.previous_counter = fields.counter;
+    // While it is still known which axes have begun before this datagram.
+    add_samples(session, fields.statuses[GYRO], samples);
 
     let mut datagram = Datagram {
         fields,
         gap,
+        doubtful: session.doubts.map(|doubt| doubt.marked),
         ..Datagram::ZEROS
     };
     for group in 0..3 {
@@ -248,21 +306,46 @@ fn hand_out(session: &mut Session, bytes: &[u8]) -> Datagram {
             setup.shifts[group],
             fields.readings[group],
         );
-        datagram.flagged_channels[group] = flagged_channels(fields.statuses[group]);
-        datagram.judgements[group] =
-            [0, 1, 2].map(|axis| judgement_of(fields.statuses[group], axis));
+        let status = fields.statuses[group];
+        datagram.flagged_channels[group] = flagged_channels(status);
+        datagram.judgements[group] = [0, 1, 2].map(|axis| judgement_of(status, axis));
         if keeps_totals(&setup, group) {
-            for axis in 0..3 {
-                let kept = &mut session.axes[group][axis];
-                // Unfit datagrams alter nothing.
-                if is_fit(fields.statuses[group], axis) {
-                    add_fit_reading(kept, fields.readings[group][axis]);
-                }
-                datagram.totals[group][axis] = total_of(kept, setup.shifts[group]);
-            }
+            datagram.totals[group] = move_totals(session, group, &fields);
         }
     }
     datagram
+}
+
+/// The totals of a group that keeps them, with this datagram's fit readings added.
+fn move_totals(session: &mut Session, group: usize, fields: &Fields) -> [Total; 3] {
+    let shift = session.setup.shifts[group];
+    for axis in 0..3 {
+        // Unfit datagrams alter nothing.
+        if is_fit(fields.statuses[group], axis) {
+            add_fit_reading(&mut session.axes[group][axis], fields.readings[group][axis]);
+        }
+    }
+    session.axes[group].map(|kept| total_of(&kept, shift))
+}
+
+/// 02, 2.5: adds a datagram's internal samples to the sum of each gyro axis that has
+/// begun before it. If the axis is fit, a sum above 16, or external trigger, marks
+/// its total, and the sum goes to 0.
+fn add_samples(session: &mut Session, gyro_status: u8, samples: u32) {
+    let external_trigger = session.setup.rate == 0;
+    for axis in 0..3 {
+        // Only an axis that keeps a total begins, and its first fit datagram marks
+        // nothing.
+        if !session.axes[GYRO][axis].begun {
+            continue;
+        }
+        let doubt = &mut session.doubts[axis];
+        doubt.sum = MOST_SAMPLES.min(doubt.sum + samples);
+        if is_fit(gyro_status, axis) {
+            doubt.marked |= external_trigger || doubt.sum > SURE_SAMPLES;
+            doubt.sum = 0;
+        }
+    }
 }
 
 /// 01, "Totals": the first fit datagram makes the total 0, each later fit one

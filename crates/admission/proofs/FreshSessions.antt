@@ -12,7 +12,7 @@ use Rattle.motion.specs.Totals.{groupsKept}
 use Rattle.scan.specs.OneLength.{heldRule}
 use Rattle.session.specs.Session.{freshOf}
 use Rattle.admission.specs.Admission.{allZero, isSound}
-use Rattle.admission.proofs.AxisLaws.{none-right}
+use Rattle.admission.proofs.AxisLaws.{kept-none}
 use Rattle.admission.proofs.Soundness.{facts-sound, refused-unsound}
 
 pub fresh-sound : (u : Setup) → rulingOn u ≡ Accepted → isSound (freshOf u) ≡ true
@@ -26,7 +26,7 @@ fresh-sound u e =
       rest = refl;
       sum = omega (arith, mul-zero (lengthOf u));
       most = omega arith;
-      axes = none-right (groupsKept u);
+      kept = kept-none (groupsKept u);
     })
 
 pub zeros-unsound : isSound (freshOf zeroSetup) ≡ false

@@ -17,7 +17,7 @@ use Rattle.scan.specs.OneLength.{heldRule}
 use Rattle.search.specs.Search.{limitsOf, rulesOf}
 use Rattle.session.specs.declared.Session.{Session}
 use Rattle.session.specs.Session.{isAccepted}
-use Rattle.admission.specs.Admission.{setupRight, heldBytes, heldRight, allZero, restRight, sumRight, fedRight, axesRight, isSound}
+use Rattle.admission.specs.Admission.{setupRight, heldBytes, heldRight, allZero, restRight, sumRight, fedRight, keptRight, isSound}
 
 -- the clauses as facts
 pub record Facts (s : Session) : Type 0 where
@@ -27,7 +27,7 @@ pub record Facts (s : Session) : Type 0 where
   pub rest : allZero (drop (s .count) (s .held)) ≡ true
   pub sum : lengthOf (s .setup) * s .history .datagrams .0 + s .passed + s .count ≡ s .fed
   pub most : s .fed ≤ limitsOf (s .setup) .session
-  pub axes : axesRight (s .setup) (s .history .datagrams .0) (s .history .axes) ≡ true
+  pub kept : keptRight (s .setup) (s .history) ≡ true
 
 pub accepted-true : (j : Ruling) → isAccepted j ≡ true → j ≡ Accepted
 accepted-true Accepted e = refl
@@ -49,7 +49,7 @@ sound-facts s e =
       rest = r .0;
       sum = eqb-true (lengthOf (s .setup) * s .history .datagrams .0 + s .passed + s .count) (s .fed) (t .0);
       most = leb-true (s .fed) (limitsOf (s .setup) .session) (f .0);
-      axes = f .1;
+      kept = f .1;
     }
 
 pub facts-sound : (s : Session) → Facts s → isSound s ≡ true
@@ -59,7 +59,7 @@ facts-sound s h =
     (and-true (and-true (le-leb (s .count) (length (s .held)) (h .within)) (h .held))
     (and-true (h .rest)
     (and-true (eq-eqb (lengthOf (s .setup) * s .history .datagrams .0 + s .passed + s .count) (s .fed) (h .sum))
-    (and-true (le-leb (s .fed) (limitsOf (s .setup) .session) (h .most)) (h .axes)))))
+    (and-true (le-leb (s .fed) (limitsOf (s .setup) .session) (h .most)) (h .kept)))))
 
 -- a session whose setup is refused is not sound
 pub refused-unsound : (s : Session) {n : ℕ} → rulingOn (s .setup) ≡ Refused n → isSound s ≡ false
@@ -70,11 +70,10 @@ refused-unsound s e = rw e
 
 -- the same test with its clauses in pairs, as the code takes them
 pub in-parts : (s : Session) →
-    let axes = axesRight (s .setup) (s .history .datagrams .0) (s .history .axes) in
-    isSound s ≡ (setupRight s && ((heldRight s && restRight s) && ((sumRight s && fedRight s) && axes)))
+    isSound s ≡ (setupRight s && ((heldRight s && restRight s) && ((sumRight s && fedRight s) && keptRight (s .setup) (s .history))))
 unfolding isSound
 in-parts s =
-    let rest = axesRight (s .setup) (s .history .datagrams .0) (s .history .axes) in
+    let rest = keptRight (s .setup) (s .history) in
     sym
     (ap (λ t. setupRight s && t)
     (and-assoc (heldRight s) (restRight s) ((sumRight s && fedRight s) && rest)

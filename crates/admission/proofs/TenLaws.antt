@@ -16,11 +16,14 @@ use Rattle.setup.proofs.Rules.{number-accepted, accepted-number}
 use Rattle.motion.specs.Totals.{keeps, groupsKept, axisAt}
 use Rattle.motion.specs.declared.Axis.{Axis}
 use Rattle.motion.proofs.NineAxes.{kept-at}
+use Rattle.doubt.specs.Doubt.{doubtAt}
+use Rattle.doubt.specs.declared.AxisDoubt.{AxisDoubt}
+use Rattle.history.specs.History.{awaitsFirst}
 use Rattle.session.specs.declared.Session.{Session}
 use Rattle.admission.specs.Admission.{allZero, isSound}
-use Rattle.admission.specs.SoundSession.{AxisPasses, PassesTen}
+use Rattle.admission.specs.SoundSession.{AxisPasses, DoubtPasses, PassesTen}
 use Rattle.admission.proofs.Soundness.{Facts, sound-facts, facts-sound, held-rule}
-use Rattle.admission.proofs.AxisLaws.{AxisFacts, axes-at, each-axes}
+use Rattle.admission.proofs.AxisLaws.{AxisFacts, DoubtFacts, kept-axes, kept-doubts, each-kept}
 
 -- ---- the rule for held bytes
 
@@ -52,12 +55,20 @@ at-zero (b ∷ l) h = and-true (eq-eqb b 0 (h 0)) (at-zero l (λ i. h (suc i)))
 
 -- ---- one axis
 
-module _ (kept : Bool) (n : ℕ) (a : Axis) where
-  axis-passes : AxisFacts kept n a → AxisPasses kept n a
-  axis-passes f = record { total = f .total; last = range-inReading (a .last) (f .last); idle = f .idle }
+module _ (kept first : Bool) (n : ℕ) (a : Axis) where
+  axis-passes : AxisFacts kept first n a → AxisPasses kept first n a
+  axis-passes f = record { total = f .total; last = range-inReading (a .last) (f .last); idle = f .idle; start = f .start }
 
-  passes-axis : AxisPasses kept n a → AxisFacts kept n a
-  passes-axis p = record { total = p .total; last = inReading-true (a .last) (p .last); idle = p .idle }
+  passes-axis : AxisPasses kept first n a → AxisFacts kept first n a
+  passes-axis p = record { total = p .total; last = inReading-true (a .last) (p .last); idle = p .idle; start = p .start }
+
+-- and what is kept of a gyro axis beside its total
+module _ (going : Bool) (q : AxisDoubt) where
+  doubt-passes : DoubtFacts going q → DoubtPasses going q
+  doubt-passes f = record { sum = f .sum; idle = f .idle }
+
+  passes-doubt : DoubtPasses going q → DoubtFacts going q
+  passes-doubt p = record { sum = p .sum; idle = p .idle }
 
 -- ---- the session
 
@@ -65,8 +76,9 @@ module _ (s : Session) where
   facts-ten : Facts s → PassesTen s
   facts-ten f =
       let u = s .setup in
-      let n = s .history .datagrams .0 in
-      let a = s .history .axes in
+      let h = s .history in
+      let n = h .datagrams .0 in
+      let a = h .axes in
       record {
         setup = accepted-number u (f .accepted);
         there = f .within;
@@ -82,16 +94,22 @@ module _ (s : Session) where
         sum = f .sum;
         most = f .most;
         axes =
-            λ group axis h k.
-            axis-passes (keeps u group) n (axisAt a group axis)
-            (subst (λ (b : Bool). AxisFacts b n (axisAt a group axis)) (kept-at u group h) (axes-at (groupsKept u) n a (f .axes) group axis h k));
+            λ group axis g k.
+            axis-passes (keeps u group) (awaitsFirst h) n (axisAt a group axis)
+            (subst (λ (b : Bool). AxisFacts b (awaitsFirst h) n (axisAt a group axis)) (kept-at u group g) (kept-axes (groupsKept u) h (f .kept) group axis g k));
+        doubt =
+            λ axis k.
+            doubt-passes (keeps u 0 && axisAt a 0 axis .begun) (doubtAt (h .doubt) axis)
+            (subst (λ (b : Bool). DoubtFacts (b && axisAt a 0 axis .begun) (doubtAt (h .doubt) axis)) (kept-at u 0 (omega arith))
+            (kept-doubts (groupsKept u) h (f .kept) axis k));
       }
 
   ten-facts : PassesTen s → Facts s
   ten-facts p =
       let u = s .setup in
-      let n = s .history .datagrams .0 in
-      let a = s .history .axes in
+      let h = s .history in
+      let n = h .datagrams .0 in
+      let a = h .axes in
       record {
         accepted = number-accepted u (p .setup);
         within = p .there;
@@ -103,11 +121,14 @@ module _ (s : Session) where
             (λ i. getD-drop (s .count) (s .held) i 0 ∙ p .rest (s .count + i) (omega arith));
         sum = p .sum;
         most = p .most;
-        axes =
-            each-axes (groupsKept u) n a
-            (λ group axis h k.
-            subst (λ (b : Bool). AxisFacts b n (axisAt a group axis)) (sym (kept-at u group h))
-            (passes-axis (keeps u group) n (axisAt a group axis) (p .axes group axis h k)));
+        kept =
+            each-kept (groupsKept u) h
+            (λ group axis g k.
+            subst (λ (b : Bool). AxisFacts b (awaitsFirst h) n (axisAt a group axis)) (sym (kept-at u group g))
+            (passes-axis (keeps u group) (awaitsFirst h) n (axisAt a group axis) (p .axes group axis g k)))
+            (λ axis k.
+            subst (λ (b : Bool). DoubtFacts (b && axisAt a 0 axis .begun) (doubtAt (h .doubt) axis)) (sym (kept-at u 0 (omega arith)))
+            (passes-doubt (keeps u 0 && axisAt a 0 axis .begun) (doubtAt (h .doubt) axis) (p .doubt axis k)));
       }
 
   -- a session that the test passes has every clause, and one that has every clause passes

@@ -1,4 +1,4 @@
--- 01, What is turned down: 10 of feeding, clause by clause; 11 and 12, of a piece.
+-- 01, What is turned down: 10 of feeding, clause by clause, with 02, 2.5's; 11 and 12, of a piece.
 use Prim.Native.Nat.{ℕ, _+_, _*_, _^_}
 use mathlib.Core.Bool.{Bool, true, false, not, _&&_, _||_}
 use mathlib.Core.List.{List, [], _∷_}
@@ -16,6 +16,11 @@ use Rattle.motion.specs.Totals.{groupsKept}
 use Rattle.motion.specs.declared.Axis.{Axis}
 use Rattle.motion.specs.declared.GroupAxes.{GroupAxes}
 use Rattle.motion.specs.declared.Axes.{Axes}
+use Rattle.doubt.specs.Doubt.{greatestSum}
+use Rattle.doubt.specs.declared.AxisDoubt.{AxisDoubt}
+use Rattle.doubt.specs.declared.GyroDoubt.{GyroDoubt}
+use Rattle.history.specs.History.{awaitsFirst}
+use Rattle.history.specs.declared.History.{History}
 use Rattle.scan.specs.Rules as rules
 use Rattle.search.specs.Search.{limitsOf, rulesOf}
 use Rattle.session.specs.Session.{isAccepted}
@@ -71,20 +76,41 @@ isIdle a = not (a .begun) && (isZero (a .last) && isZero (a .total))
 abbrev pub idleRight : Bool → Axis → Bool
 idleRight kept a = (kept && a .begun) || isIdle a
 
-unfoldable pub axisRight : Bool → ℕ → Axis → Bool
-axisRight kept n a = totalRight n a && (lastRight a && idleRight kept a)
+-- it has not begun while the next datagram counts as a first one (02, 2.5)
+abbrev pub startRight : Bool → Axis → Bool
+startRight first a = not (first && a .begun)
+
+unfoldable pub axisRight : Bool → Bool → ℕ → Axis → Bool
+axisRight kept first n a = totalRight n a && (lastRight a && (idleRight kept a && startRight first a))
 
 -- of the three axes of a group, and of the nine
-unfoldable pub groupRight : Bool → ℕ → GroupAxes → Bool
-groupRight kept n g = axisRight kept n (g .x) && (axisRight kept n (g .y) && axisRight kept n (g .z))
+unfoldable pub groupRight : Bool → Bool → ℕ → GroupAxes → Bool
+groupRight kept first n g = axisRight kept first n (g .x) && (axisRight kept first n (g .y) && axisRight kept first n (g .z))
 
-unfoldable pub axesRightBy : List Bool → ℕ → Axes → Bool
-axesRightBy kept n a =
-    groupRight (getD kept 0 false) n (a .gyro) &&
-    (groupRight (getD kept 1 false) n (a .accelerometer) && groupRight (getD kept 2 false) n (a .inclinometer))
+unfoldable pub axesRight : List Bool → Bool → ℕ → Axes → Bool
+axesRight kept first n a =
+    groupRight (getD kept 0 false) first n (a .gyro) &&
+    (groupRight (getD kept 1 false) first n (a .accelerometer) && groupRight (getD kept 2 false) first n (a .inclinometer))
 
-abbrev pub axesRight : Setup → ℕ → Axes → Bool
-axesRight u n a = axesRightBy (groupsKept u) n a
+-- of what is kept of a gyro axis beside its total: its sum is at most 65,535, and it is 0 and without a mark, unless the axis is going: it has begun and
+-- keeps a total (02, 2.5)
+abbrev pub isUnmarked : AxisDoubt → Bool
+isUnmarked q = eqb (q .samples .0) 0 && not (q .marked)
+
+unfoldable pub doubtRight : Bool → AxisDoubt → Bool
+doubtRight going q = leb (q .samples .0) greatestSum && (going || isUnmarked q)
+
+unfoldable pub gyroDoubtRight : Bool → GroupAxes → GyroDoubt → Bool
+gyroDoubtRight kept g q =
+    doubtRight (kept && g .x .begun) (q .x) && (doubtRight (kept && g .y .begun) (q .y) && doubtRight (kept && g .z .begun) (q .z))
+
+-- of all that a session keeps of the datagrams handed out; kept: which groups keep totals
+unfoldable pub keptRightBy : List Bool → History → Bool
+keptRightBy kept h =
+    axesRight kept (awaitsFirst h) (h .datagrams .0) (h .axes) && gyroDoubtRight (getD kept 0 false) (h .axes .gyro) (h .doubt)
+
+abbrev pub keptRight : Setup → History → Bool
+keptRight u h = keptRightBy (groupsKept u) h
 
 -- feeding doesn't turn the session down by 10
 unfoldable pub isSound : Session → Bool
@@ -94,7 +120,7 @@ isSound s =
     (restRight s &&
     (sumRight s &&
     (fedRight s &&
-    axesRight (s .setup) (s .history .datagrams .0) (s .history .axes)))))
+    keptRight (s .setup) (s .history)))))
 
 -- ---- what feeding turns down, of a piece of n bytes
 

@@ -1,4 +1,4 @@
--- 01, What is turned down, 10: what it asks of a session, clause by clause in 01's order, as facts and not as tests.
+-- 01, What is turned down, 10, and 02, 2.5: what it asks of a session, clause by clause in the papers' order, as facts and not as tests.
 use Prim.Native.Nat.{ℕ, _+_, _*_, _^_, _≤_, _<_}
 use mathlib.Core.Bool.{Bool, true, false, _&&_}
 use mathlib.Core.Logic.{_⊎_}
@@ -10,17 +10,29 @@ use Rattle.integers.specs.Ranges.{inReading}
 use Rattle.setup.specs.Setup.{setupNumber, lengthOf}
 use Rattle.motion.specs.Totals.{noAxis, keeps, axisAt}
 use Rattle.motion.specs.declared.Axis.{Axis}
+use Rattle.doubt.specs.Doubt.{noDoubt, doubtAt}
+use Rattle.doubt.specs.declared.AxisDoubt.{AxisDoubt}
+use Rattle.history.specs.History.{awaitsFirst}
 use Rattle.search.specs.Search.{limitsOf}
 use Rattle.session.specs.declared.Session.{Session}
 
--- of an axis, after so many datagrams; kept: whether its group keeps totals
-pub record AxisPasses (kept : Bool) (datagrams : ℕ) (a : Axis) : Type 0 where
+-- of an axis, after so many datagrams; kept: whether its group keeps totals, first: whether the next datagram counts as a first one
+pub record AxisPasses (kept first : Bool) (datagrams : ℕ) (a : Axis) : Type 0 where
   -- its total is at most datagrams × 2 ^ 23 in size
   pub total : natAbs (a .total) ≤ datagrams * 2 ^ 23
   -- its kept reading is in 24 bits
   pub last : inReading (a .last) ≡ true
   -- not begun, or keeping no total, it is all zero
   pub idle : (kept && a .begun) ≡ false → a ≡ noAxis
+  -- it has not begun while the next datagram counts as a first one
+  pub start : first ≡ true → a .begun ≡ false
+
+-- of what is kept of a gyro axis beside its total; going: whether the axis keeps a total and has begun
+pub record DoubtPasses (going : Bool) (q : AxisDoubt) : Type 0 where
+  -- its sum is at most 65,535
+  pub sum : q .samples .0 ≤ 65535
+  -- not begun, or keeping no total, it is 0 and without a mark
+  pub idle : going ≡ false → q ≡ noDoubt
 
 -- feeding doesn't turn the session down by 10
 pub record PassesTen (s : Session) : Type 0 where
@@ -38,4 +50,7 @@ pub record PassesTen (s : Session) : Type 0 where
   -- each axis of each group is right
   pub axes :
       (group axis : ℕ) → group < 3 → axis < 3
-      → AxisPasses (keeps (s .setup) group) (s .history .datagrams .0) (axisAt (s .history .axes) group axis)
+      → AxisPasses (keeps (s .setup) group) (awaitsFirst (s .history)) (s .history .datagrams .0) (axisAt (s .history .axes) group axis)
+  -- and what is kept of each gyro axis beside its total
+  pub doubt :
+      (axis : ℕ) → axis < 3 → DoubtPasses (keeps (s .setup) 0 && axisAt (s .history .axes) 0 axis .begun) (doubtAt (s .history .doubt) axis)

@@ -1,4 +1,4 @@
-// Whether feeding turns down a session or a piece (01, What is turned down, 10 to 12).
+// Whether feeding turns down a session or a piece (01, What is turned down, 10 to 12; 02, 2.5).
 ghost use mathlib.Core.Path.{_≡_};
 ghost use mathlib.Core.Bool.{_&&_};
 ghost use Prim.Native.Nat.{_+_, _*_, _^_, _≤_, _<_};
@@ -9,8 +9,11 @@ ghost use Rattle.setup.specs.Sensor.{sensorOf};
 ghost use Rattle.setup.specs.declared.Ruling.the-variants.{Accepted};
 ghost use Rattle.scan.specs.OneLength.{heldRule};
 ghost use Rattle.search.specs.Search.{limitsOf};
-ghost use Rattle.admission.specs.Admission.{asStruct, allZero, axisRight, groupRight, axesRightBy, isSound, admissionOf};
+ghost use Rattle.admission.specs.Admission.{asStruct, allZero, axisRight, groupRight, axesRight, doubtRight, gyroDoubtRight, keptRightBy, isSound, admissionOf};
+use doubt::AxisDoubt;
+use doubt::GyroDoubt;
 use gaps::Datagrams;
+use history::History;
 use motion::Axes;
 use motion::Axis;
 use motion::GroupAxes;
@@ -98,10 +101,10 @@ fn counts_right(
     (size * datagrams.0 + passed + held == fed) & (fed <= most)
 }
 
-// Whether an axis is one that so many datagrams can leave.
-fn axis_right(kept: bool, datagrams: Datagrams, axis: Axis) -> bool
+// Whether an axis is one that so many datagrams can leave; `first`: whether the next one counts as a first one.
+fn axis_right(kept: bool, first: bool, datagrams: Datagrams, axis: Axis) -> bool
     requires { ⌜ datagrams .0 * 2 ^ 24 < 2 ^ 64 ⌝ }
-    ensures { λ r. ⌜ r ≡ axisRight kept (datagrams .0) axis ⌝ }
+    ensures { λ r. ⌜ r ≡ axisRight kept first (datagrams .0) axis ⌝ }
 {
     let begun = axis.begun;
     let last = axis.last;
@@ -110,29 +113,64 @@ fn axis_right(kept: bool, datagrams: Datagrams, axis: Axis) -> bool
     let fits = integers::fits_reading(last);
     let unread = integers::is_zero(last as i64);
     let unmoved = integers::is_zero(total);
-    small & (fits & ((kept & begun) | (!begun & (unread & unmoved))))
+    small & (fits & (((kept & begun) | (!begun & (unread & unmoved))) & !(first & begun)))
 }
 
 // The same of the three axes of a group.
-fn group_right(kept: bool, datagrams: Datagrams, group: GroupAxes) -> bool
+fn group_right(kept: bool, first: bool, datagrams: Datagrams, group: GroupAxes) -> bool
     requires { ⌜ datagrams .0 * 2 ^ 24 < 2 ^ 64 ⌝ }
-    ensures { λ r. ⌜ r ≡ groupRight kept (datagrams .0) group ⌝ }
+    ensures { λ r. ⌜ r ≡ groupRight kept first (datagrams .0) group ⌝ }
 {
-    let x = axis_right(kept, datagrams, group.x);
-    let y = axis_right(kept, datagrams, group.y);
-    let z = axis_right(kept, datagrams, group.z);
+    let x = axis_right(kept, first, datagrams, group.x);
+    let y = axis_right(kept, first, datagrams, group.y);
+    let z = axis_right(kept, first, datagrams, group.z);
     x & (y & z)
 }
 
 // And of the nine.
-fn axes_right(kept: [bool; 3], datagrams: Datagrams, axes: Axes) -> bool
+fn axes_right(kept: [bool; 3], first: bool, datagrams: Datagrams, axes: Axes) -> bool
     requires { ⌜ datagrams .0 * 2 ^ 24 < 2 ^ 64 ⌝ }
-    ensures { λ r. ⌜ r ≡ axesRightBy kept (datagrams .0) axes ⌝ }
+    ensures { λ r. ⌜ r ≡ axesRight kept first (datagrams .0) axes ⌝ }
 {
-    let gyro = group_right(kept[0], datagrams, axes.gyro);
-    let accelerometer = group_right(kept[1], datagrams, axes.accelerometer);
-    let inclinometer = group_right(kept[2], datagrams, axes.inclinometer);
+    let gyro = group_right(kept[0], first, datagrams, axes.gyro);
+    let accelerometer = group_right(kept[1], first, datagrams, axes.accelerometer);
+    let inclinometer = group_right(kept[2], first, datagrams, axes.inclinometer);
     gyro & (accelerometer & inclinometer)
+}
+
+// Whether the sum and the mark of a gyro axis are right; `going`: whether the axis keeps a total and has begun.
+fn doubt_right(going: bool, doubt: AxisDoubt) -> bool
+    ensures { λ r. ⌜ r ≡ doubtRight going doubt ⌝ }
+{
+    let samples = doubt.samples;
+    let marked = doubt.marked;
+    let fits = doubt::fits_sum(samples);
+    fits & (going | ((samples.0 == 0) & !marked))
+}
+
+// The same of the gyro's axes.
+fn gyro_doubt_right(kept: bool, axes: GroupAxes, doubt: GyroDoubt) -> bool
+    ensures { λ r. ⌜ r ≡ gyroDoubtRight kept axes doubt ⌝ }
+{
+    let x = doubt_right(kept & axes.x.begun, doubt.x);
+    let y = doubt_right(kept & axes.y.begun, doubt.y);
+    let z = doubt_right(kept & axes.z.begun, doubt.z);
+    x & (y & z)
+}
+
+// Whether all is right that is kept of the datagrams handed out; `kept`: which groups keep totals.
+fn history_right(kept: [bool; 3], history: History) -> bool
+    requires { ⌜ history .datagrams .0 * 2 ^ 24 < 2 ^ 64 ⌝ }
+    ensures { λ r. ⌜ r ≡ keptRightBy kept history ⌝ }
+{
+    let datagrams = history.datagrams;
+    let axes = history.axes;
+    let gyro = axes.gyro;
+    let doubt = history.doubt;
+    let first = history::awaits_first(history);
+    let axes_are = axes_right(kept, first, datagrams, axes);
+    let doubt_is = gyro_doubt_right(kept[0], gyro, doubt);
+    axes_are & doubt_is
 }
 
 // Whether feeding doesn't turn down by 10 a session whose setup describes this sensor.
@@ -145,7 +183,6 @@ fn sound_by(sensor: Sensor, session: Session) -> bool
     let count = session.count;
     let history = session.history;
     let datagrams = history.datagrams;
-    let axes = history.axes;
     let row = sensor.row;
     let units = sensor.units;
     let size = wire::length_of(row, sensor.terminated);
@@ -163,7 +200,7 @@ fn sound_by(sensor: Sensor, session: Session) -> bool
         return false;
     }
     let kept = motion::kept_groups(row, units);
-    axes_right(kept, datagrams, axes)
+    history_right(kept, history)
 }
 
 // Whether a session whose setup describes this sensor may be fed a piece of so many bytes.

@@ -1,15 +1,16 @@
-// A datagram as it comes back with an answer, and what stands in its place where none is handed out (01, The scan; Status, doubles, gaps; Totals; 02, 2.3).
+// A datagram as it comes back with an answer, and what stands in its place where none is handed out (01, The scan; Status, doubles, gaps; Totals; 02, 2.3, 2.5).
 ghost use mathlib.Core.Path.{_≡_};
 ghost use Rattle.motion.specs.Totals.{noAxes, totalsOf};
-ghost use Rattle.feeding.specs.Feed.{datagramWith, noFields, allFit, noValues, noDoubles, noDatagram};
+ghost use Rattle.feeding.specs.Feed.{datagramWith, noFields, allFit, noValues, noDoubles, noMarks, noDatagram};
 ghost use Rattle.feeding.specs.CallParts.{contentsWith};
 use doubles::GroupValues;
 use doubles::TotalDoubles;
 use doubles::Values;
+use doubt::GyroMarks;
 use feeding::Datagram;
 use gaps::Datagrams;
 use gaps::Gap;
-use motion::Axes;
+use history::History;
 use motion::GroupJudgements;
 use motion::GroupTotals;
 use motion::Judgement;
@@ -19,16 +20,18 @@ use motion::Totals;
 use setup::Sensor;
 use wire::Fields;
 
-// A datagram as it comes back, of its readings and its other fields; `gap`: what lies before it, `axes`: those after it.
+// A datagram as it comes back, of its readings and its other fields; `gap`: what lies before it, `history`: that behind it.
 pub fn datagram_of(
     sensor: Sensor,
     gap: Gap,
     readings: [[i32; 3]; 3],
     fields: Fields,
-    axes: Axes,
+    history: History,
 ) -> Datagram
-    ensures { λ r. ⌜ r ≡ datagramWith sensor gap (contentsWith readings fields) axes ⌝ }
+    ensures { λ r. ⌜ r ≡ datagramWith sensor gap (contentsWith readings fields) history ⌝ }
 {
+    let axes = history.axes;
+    let doubt = history.doubt;
     let statuses = fields.statuses;
     let flagged = [
         motion::flagged_channels(statuses[0]),
@@ -41,6 +44,7 @@ pub fn datagram_of(
     let values = doubles::group_values(units, shifts, readings);
     let totals = motion::totals_of(axes);
     let doubles = doubles::total_doubles(shifts, axes);
+    let doubtful = doubt::marks_of(doubt);
     let gyro = readings[0];
     let accelerometer = readings[1];
     let inclinometer = readings[2];
@@ -55,6 +59,7 @@ pub fn datagram_of(
         gap: gap,
         totals: totals,
         doubles: doubles,
+        doubtful: doubtful,
     }
 }
 
@@ -136,6 +141,17 @@ fn no_doubles() -> TotalDoubles
     }
 }
 
+// The marks there: none.
+fn no_marks() -> GyroMarks
+    ensures { λ r. ⌜ r ≡ noMarks ⌝ }
+{
+    GyroMarks {
+        x: false,
+        y: false,
+        z: false,
+    }
+}
+
 // What comes back in a datagram's place where none is handed out.
 pub fn no_datagram() -> Datagram
     ensures { λ r. ⌜ r ≡ noDatagram ⌝ }
@@ -151,6 +167,7 @@ pub fn no_datagram() -> Datagram
     let gap = Gap::Missed(Datagrams(0));
     let totals = no_totals();
     let doubles = no_doubles();
+    let doubtful = no_marks();
     Datagram {
         gyro: [0; 3],
         accelerometer: [0; 3],
@@ -162,5 +179,6 @@ pub fn no_datagram() -> Datagram
         gap: gap,
         totals: totals,
         doubles: doubles,
+        doubtful: doubtful,
     }
 }

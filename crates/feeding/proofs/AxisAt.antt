@@ -9,6 +9,7 @@ use native.Mathlib.Omega.{arith}
 use lib.IntN.{natAbs}
 use lib.ListN.{length, take, getD, length-map}
 use lib.Seq.{length-take-le}
+use Rattle.integers.proofs.Buffers.{take-map, getD-map}
 use Rattle.setup.specs.Setup.{rulingOn}
 use Rattle.setup.specs.Sensor.{sensorOf}
 use Rattle.setup.specs.declared.Setup.{Setup}
@@ -36,17 +37,6 @@ after-ruled true ss h = after-within noAxis ss 0 (omega arith) (omega arith)
 after-ruled false ss h = after-not-kept noAxis ss
 
 -- ---- sightings by their place
-
-take-map : {A B : Type 0} (f : A → B) (l : List A) (i : ℕ) → take i (map f l) ≡ map f (take i l)
-take-map f [] zero = refl
-take-map f [] (suc i) = refl
-take-map f (x ∷ l) zero = refl
-take-map {B = B} f (x ∷ l) (suc i) = ap (λ (m : List B). f x ∷ m) (take-map f l i)
-
-getD-map : {A B : Type 0} (f : A → B) (l : List A) (i : ℕ) (a : A) (b : B) → i < length l → getD (map f l) i b ≡ f (getD l i a)
-getD-map f [] i a b h = absurd (omega arith)
-getD-map f (x ∷ l) zero a b h = refl
-getD-map f (x ∷ l) (suc i) a b h = getD-map f l i a b (omega arith)
 
 module _ (u : Setup) (group axis : ℕ) where
   pub sighting-at :

@@ -8,6 +8,7 @@ use Rattle.setup.specs.Sensor.{sensorOf}
 use Rattle.setup.specs.declared.Setup.{Setup}
 use Rattle.setup.specs.declared.Sensor.{Sensor}
 use Rattle.setup.specs.declared.Ruling.the-variants.{Accepted}
+use Rattle.setup.proofs.Sensors.{sensor-rate}
 use Rattle.wire.specs.Fields.{Contents, fieldsOf}
 use Rattle.wire.proofs.FieldBytes.{sensor-fields}
 use Rattle.gaps.specs.Gaps.{gapAt}
@@ -30,19 +31,19 @@ module _ (u : Setup) (ok : rulingOn u ≡ Accepted) where
     inside-it = fieldsOf (u .identifier) d
 
     pub after-datagram :
-        historyAfter (sensorOf u) first h d ≡ historyNext (groupsKept u) h (inside-it .readings) (inside-it .statuses) (inside-it .counter)
+        historyAfter (sensorOf u) first h d ≡ historyNext (u .rate) (groupsKept u) first h (inside-it .readings) (inside-it .statuses) (inside-it .counter)
     unfolding historyAfter
     after-datagram =
         λ i.
         let c = sym (sensor-fields u d ok) i in
-        historyNext (accepted-kept u ok i) h (c .readings) (c .statuses) (c .counter)
+        historyNext (sensor-rate u ok i) (accepted-kept u ok i) first h (c .readings) (c .statuses) (c .counter)
 
     pub told-datagram :
         tell (sensorOf u) first h d
         ≡ datagramWith (sensorOf u) (gapAt (u .rate) first (h .previous) (inside-it .counter)) inside-it
-        (historyNext (groupsKept u) h (inside-it .readings) (inside-it .statuses) (inside-it .counter) .axes)
+        (historyNext (u .rate) (groupsKept u) first h (inside-it .readings) (inside-it .statuses) (inside-it .counter))
     unfolding tell
     told-datagram =
         λ i.
         let c = sym (sensor-fields u d ok) i in
-        datagramWith (sensorOf u) (accepted-gap u ok first (h .previous) (c .counter) i) c (after-datagram i .axes)
+        datagramWith (sensorOf u) (accepted-gap u ok first (h .previous) (c .counter) i) c (after-datagram i)

@@ -1,7 +1,7 @@
 -- One call of feed on a session that 10 doesn't turn down, by what it answers: a datagram, or waiting. Assumes nothing.
 use Prim.Native.Nat.{ℕ, _+_, _-_, _^_, _≤_, _<_}
 use mathlib.Core.Path.{_≡_, refl, sym, ap, _∙_, subst}
-use mathlib.Core.Bool.{Bool, true, false, cond}
+use mathlib.Core.Bool.{Bool, true, false, _&&_, cond}
 use mathlib.Core.List.{List, [], _++_, append-assoc, append-nil}
 use native.Mathlib.Nat.{mul-le-mul-right}
 use native.Mathlib.Omega.{arith}
@@ -18,6 +18,10 @@ use Rattle.wire.proofs.FieldBytes.{sensor-fields}
 use Rattle.motion.specs.Totals.{noAxis, Sighting, axisStep, keptStep, keeps, axisAt}
 use Rattle.motion.specs.declared.Axis.{Axis}
 use Rattle.motion.proofs.Bounds.{step-within, step-not-kept}
+use Rattle.gaps.specs.declared.Samples.{Samples}
+use Rattle.doubt.specs.Doubt.{noDoubt, doubtStep, keptDoubt, doubtAt}
+use Rattle.doubt.specs.declared.AxisDoubt.{AxisDoubt}
+use Rattle.doubt.proofs.DoubtLaws.{kept-doubt, unkept-doubt}
 use Rattle.scan.specs.Scan.{ends, finds, first, Undecided}
 use Rattle.scan.specs.Calls as calls
 use Rattle.scan.specs.Calls.{Fed, after, taking}
@@ -31,7 +35,7 @@ use Rattle.search.proofs.Datagrams.{lawful}
 use Rattle.history.specs.History.{awaitsFirst, historyNext}
 use Rattle.session.specs.declared.Session.{Session}
 use Rattle.admission.specs.Admission.{heldBytes, isSound}
-use Rattle.admission.specs.SoundSession.{AxisPasses, PassesTen}
+use Rattle.admission.specs.SoundSession.{AxisPasses, DoubtPasses, PassesTen}
 use Rattle.admission.proofs.Soundness.{sound-facts}
 use Rattle.admission.proofs.TenLaws.{sound-ten}
 use Rattle.feeding.specs.declared.Datagram.{Datagram}
@@ -42,8 +46,9 @@ use Rattle.feeding.proofs.Refinement.{state-safe}
 use Rattle.feeding.proofs.HistoryInvariant.{history-invariant}
 use Rattle.feeding.proofs.Agreement.{stateCall, on-state}
 use Rattle.feeding.proofs.EachCall.{call-kept}
-use Rattle.feeding.proofs.DatagramLaws.{contained-told, total-told, exact-told}
+use Rattle.feeding.proofs.DatagramLaws.{contained-told, total-told, exact-told, mark-told}
 use Rattle.feeding.proofs.AxisAt.{axis-next}
+use Rattle.feeding.proofs.DoubtAt.{doubt-next}
 
 -- a session has so few datagrams that no total passes 2 ^ 53
 few-totals : (s : Session) → PassesTen s → 18 ≤ lengthOf (s .setup) → (group axis : ℕ) → group < 3 → axis < 3 → natAbs (axisAt (s .history .axes) group axis .total) ≤ 2 ^ 53
@@ -58,9 +63,16 @@ few-totals s t l group axis g k =
 
 -- a step of an axis that 10 lets pass is 01's where it keeps a total, and else leaves it all zero
 step-ruled :
-    (kept : Bool) (n : ℕ) (a : Axis) (d : Sighting) → AxisPasses kept n a → natAbs (a .total) ≤ 2 ^ 53 → keptStep kept a d ≡ cond kept (axisStep a d) noAxis
-step-ruled true n a d p h = step-within a d h
-step-ruled false n a d p h = step-not-kept a d ∙ p .idle refl
+    (kept first : Bool) (n : ℕ) (a : Axis) (d : Sighting) → AxisPasses kept first n a → natAbs (a .total) ≤ 2 ^ 53 → keptStep kept a d ≡ cond kept (axisStep a d) noAxis
+step-ruled true first n a d p h = step-within a d h
+step-ruled false first n a d p h = step-not-kept a d ∙ p .idle refl
+
+-- and so is what is kept of a gyro axis beside its total
+doubt-ruled :
+    (rate : ℕ) (kept begun fit : Bool) (q : AxisDoubt) (d : Samples) → DoubtPasses (kept && begun) q
+    → keptDoubt rate kept begun fit q d ≡ cond kept (doubtStep rate begun fit q d) noDoubt
+doubt-ruled rate true begun fit q d p = kept-doubt rate true begun fit q d refl
+doubt-ruled rate false begun fit q d p = unkept-doubt rate false begun fit q d refl ∙ p .idle refl
 
 module _ (s : Session) (e : isSound s ≡ true) (p : List ℕ) where
   abbrev u : Setup
@@ -139,9 +151,15 @@ module _ (s : Session) (e : isSound s ≡ true) (p : List ℕ) where
                 λ group axis g h.
                 let t = sound-ten s e in
                 axis-next u group axis ok g h (awaitsFirst (s .history)) (s .history) d
-                ∙ step-ruled (keeps u group) (s .history .datagrams .0) (axisAt (s .history .axes) group axis) (sighting u group axis d)
+                ∙ step-ruled (keeps u group) (awaitsFirst (s .history)) (s .history .datagrams .0) (axisAt (s .history .axes) group axis) (sighting u group axis d)
                 (t .axes group axis g h) (few-totals s t least group axis g h);
             totals = λ group axis g h. total-told u ok (s .history) d group axis g h;
+            doubt =
+                λ axis h.
+                doubt-next u axis ok h (awaitsFirst (s .history)) (s .history) d
+                ∙ doubt-ruled (u .rate) (keeps u 0) (axisAt (s .history .axes) 0 axis .begun) (sighting u 0 axis d .fit) (doubtAt (s .history .doubt) axis) _
+                (sound-ten s e .doubt axis h);
+            marks = λ axis h. mark-told u ok (s .history) d axis h;
           }
 
   pub call-hands : call s p .answer ≡ calls.Answer.datagram (feedOf s p .datagram) → CallHands s p (feedOf s p)

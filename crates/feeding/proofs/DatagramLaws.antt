@@ -2,7 +2,7 @@
 -- Assumes nothing.
 use Prim.Native.Nat.{ℕ, _^_, _≤_, _<_}
 use mathlib.Core.Path.{_≡_, refl, sym, ap, _∙_, subst}
-use mathlib.Core.Bool.{true}
+use mathlib.Core.Bool.{true, false}
 use mathlib.Core.List.{List}
 use native.Mathlib.Omega.{arith}
 use lib.Ieee.{Float, nan}
@@ -28,6 +28,8 @@ use Rattle.doubles.specs.Doubles.{negative, plusZero, unitNumberIn, doublesIn, 
 use Rattle.doubles.specs.declared.Values.{Values}
 use Rattle.doubles.proofs.Doubles.{double-at}
 use Rattle.doubles.proofs.AcceptedSetup.{accepted-unit, accepted-value, accepted-total}
+use Rattle.doubt.specs.Doubt.{doubtAt, markAt}
+use Rattle.doubt.proofs.DoubtLaws.{mark-at}
 use Rattle.scan.specs.Carry.{steps, tells}
 use Rattle.search.specs.Search.{isDatagram}
 use Rattle.search.proofs.Datagrams.{datagram-parts}
@@ -93,6 +95,10 @@ module _ (u : Setup) (ok : rulingOn u ≡ Accepted) (h : History) (d : List ℕ)
           double = double-exact small;
         }
 
+  pub mark-told : (axis : ℕ) → axis < 3 → markAt (answer .doubtful) axis ≡ doubtAt (steps (consumer u) h d .doubt) axis .marked
+  unfolding tell datagramWith
+  mark-told axis k = mark-at (steps (consumer u) h d .doubt) axis k
+
 -- ---- where none is handed out
 
 pub no-datagram-zeros : Zeros noDatagram
@@ -114,4 +120,5 @@ no-datagram-zeros =
           (refl, refl, refl);
       total = each-axis (λ group axis. totalAt (noDatagram .totals) group axis ≡ totalOf noAxis) (refl, refl, refl) (refl, refl, refl) (refl, refl, refl);
       double = each-axis (λ group axis. doubleAt (noDatagram .doubles) group axis ≡ plusZero) (refl, refl, refl) (refl, refl, refl) (refl, refl, refl);
+      unmarked = each (λ axis. markAt (noDatagram .doubtful) axis ≡ false) refl refl refl;
     }

@@ -2,15 +2,15 @@
 -- Assumes nothing.
 use Prim.Native.Nat.{ℕ, suc, _+_, _-_, _*_, _^_, _≤_, _<_}
 use mathlib.Core.Path.{_≡_, refl, sym, ap, _∙_, subst}
-use mathlib.Core.Bool.{Bool, true, cond}
-use mathlib.Core.List.{List, []}
+use mathlib.Core.Bool.{Bool, true, false, cond}
+use mathlib.Core.List.{List, [], map}
 use native.Mathlib.Omega.{arith}
 use lib.IntN.{ℤ, pos, natAbs, _-ℤ_, _*ℤ_}
 use lib.Dec.{eqb}
 use lib.Seq.{length-take-le}
 use lib.ListN.{length, take, getD, length-map}
 use Rattle.integers.specs.Bytes.{joined}
-use Rattle.integers.proofs.Buffers.{padded-front}
+use Rattle.integers.proofs.Buffers.{padded-front, getD-map}
 use Rattle.setup.specs.Setup.{rulingNumber, rulingOn, lengthOf}
 use Rattle.setup.specs.declared.Setup.{Setup}
 use Rattle.setup.specs.declared.Ruling.the-variants.{Accepted}
@@ -18,10 +18,16 @@ use Rattle.setup.proofs.Rules.{number-accepted, number-refused}
 use Rattle.wire.specs.Fields.{fieldsOf}
 use Rattle.motion.specs.Totals as totals
 use Rattle.motion.specs.Totals.{Sighting, keeps, axisAt, none, totalOf, totalAt, fitReadings, fitBefore, readingOf}
+use Rattle.motion.specs.declared.Axis.{Axis}
 use Rattle.motion.specs.declared.Total.{Total}
-use Rattle.motion.proofs.AcceptedSetup.{integrated-kept}
+use Rattle.motion.proofs.AcceptedSetup.{integrated-kept, other-not-kept}
 use Rattle.motion.proofs.Bounds.{keptAfter}
 use Rattle.motion.proofs.TrueChange.{kept-at-each, carried-at, place-of}
+use Rattle.doubt.specs.Doubt.{noDoubt, markAt}
+use Rattle.doubt.specs.Slipped.{Counted, TrueAngles, SampledAngles, FirstFit}
+use Rattle.doubt.specs.Slipped as slipped
+use Rattle.doubt.proofs.Sums.{doubtAfter, marked-slipped, slipped-marks}
+use Rattle.doubt.proofs.TrueAngle.{unmarked-stands, sampled-angles}
 use Rattle.scan.specs.Scan.{scan}
 use Rattle.scan.specs.Calls as calls
 use Rattle.scan.specs.Calls.{Report}
@@ -46,6 +52,7 @@ use Rattle.feeding.specs.declared.Datagram.{Datagram}
 use Rattle.feeding.specs.Feed.{consumer, SessionState, sessionOf, noDatagram, feedOf, Calls}
 use Rattle.feeding.specs.OneLength.{OneLength}
 use Rattle.feeding.specs.Promises.{streamOf, FedInTurn, answersFor, sighting, sightings, Contained, Exact, EveryCall, Demand2, Stands, Carry, Demand3}
+use Rattle.feeding.specs.Promises.{countedSighting, counted, DoubtfulTotals}
 use Rattle.session.proofs.Opening.{opened, refused-opening}
 use Rattle.admission.proofs.FreshSessions.{fresh-sound, zeros-unsound}
 use Rattle.admission.proofs.TenLaws.{sound-ten, ten-sound, fails-ten}
@@ -59,6 +66,7 @@ use Rattle.feeding.proofs.OneLength.{undecided-held, handed-last, empty
 use Rattle.feeding.proofs.CallParts.{fed-unsound, fed-over, fed-past}
 use Rattle.feeding.proofs.ContainedAt.{carried-datagrams, contained-at}
 use Rattle.feeding.proofs.AxisAt.{after-ruled, axisThen, total-then, then-bound, sighting-at, sightings-length, independent}
+use Rattle.feeding.proofs.DoubtAt.{counted-sightings, mark-unkept, mark-kept}
 
 module _ (u : Setup) (ok : rulingOn u ≡ Accepted) where
   -- the session that opening gives is that of the fresh state
@@ -165,6 +173,18 @@ module _ (u : Setup) (ok : rulingOn u ≡ Accepted) where
           (after-ruled (keeps u group) (take (suc i) s)
           (omega (arith, few es a, length-take-le (suc i) s (omega (arith, sightings-length u group axis es)))))
 
+      -- an axis that stands for a change is told so
+      stands-told :
+          (fine : ℕ) (t₀ t : ℤ) → totals.Stands fine t₀ t (axisThen u group axis ok h k es i) → Stands u group axis fine t₀ t (getD os i noDatagram)
+      stands-told fine t₀ t stands =
+          let steps = ap (λ (x : Total). x .steps) total-in in
+          record {
+            begun = ap (λ (x : Total). x .begun) total-in ∙ stands .begun;
+            exact = steps ∙ stands .exact;
+            near = subst (λ (z : ℤ). natAbs (z *ℤ pos fine -ℤ (t -ℤ t₀)) < fine) (sym steps) (stands .near);
+            double = exact-at .double;
+          }
+
       -- ---- the change of the true value
 
       module _ (keep : keeps u group ≡ true) (fine : ℕ) (some : 0 < fine) (ts : List ℤ) (C : Carry fine (sightings u group axis es) ts)
@@ -194,21 +214,70 @@ module _ (u : Setup) (ok : rulingOn u ≡ Accepted) where
             × Stands u group axis fine (getD ts 0 (pos 0)) (getD ts n (pos 0)) (getD os i noDatagram)
         unfolding ss
         change-at =
-            let p = carried-at (readingOf fine) ss ts (C .carried) i there fit-there in
-            let steps = ap (λ (x : Total). x .steps) total-in in (
+            let p = carried-at (readingOf fine) ss ts (C .carried) i there fit-there in (
               fitBefore ss i,
               refl,
               p .0,
               ap (λ (s : Sighting). s .reading) (sym (sighting-at u group axis es i l)) ∙ p .1,
-              record {
-                begun = ap (λ (x : Total). x .begun) total-in ∙ stands .begun;
-                exact = steps ∙ stands .exact;
-                near =
-                    subst (λ (z : ℤ). natAbs (z *ℤ pos fine -ℤ (getD ts (fitBefore ss i) (pos 0) -ℤ getD ts 0 (pos 0))) < fine) (sym steps)
-                    (stands .near);
-                double = exact-at .double;
-              },
+              stands-told fine (getD ts 0 (pos 0)) (getD ts (fitBefore ss i) (pos 0)) stands,
             )
+
+    -- ---- totals that may have slipped
+
+    module _ (es : List (List ℕ)) (a : Among (isDatagram u) (streamOf u ps) es) (three : getD (u .units) 0 0 ≡ 3) (axis : ℕ) (k : axis < 3) (i : ℕ) (l : i < length es) where
+      abbrev mark : Bool
+      mark = markAt (getD os i noDatagram .doubtful) axis
+
+      gyro-kept : keeps u 0 ≡ true
+      gyro-kept = integrated-kept u ok 0 (omega arith) three
+
+      marked-by : mark ≡ doubtAfter (u .rate) false true 0 noDoubt (take (suc i) (counted u axis es)) .marked
+      marked-by =
+          ap (λ (os : List Datagram). markAt (getD os i noDatagram .doubtful) axis) (answers es a)
+          ∙ mark-kept u axis ok k es i l gyro-kept (few es a)
+
+      -- the axis there, by 01's rule for one axis
+      axis-ruled : axisThen u 0 axis ok (omega arith) k es i ≡ totals.after noAxis (take (suc i) (map (λ (c : Counted). c .sighting) (counted u axis es)))
+      axis-ruled =
+          let s = sightings u 0 axis es in
+          after-ruled (keeps u 0) (take (suc i) s)
+          (omega (arith, few es a, length-take-le (suc i) s (omega (arith, sightings-length u 0 axis es))))
+          ∙ ap (λ (b : Bool). cond b (totals.after noAxis (take (suc i) s)) noAxis) gyro-kept
+          ∙ ap (λ (s : List Sighting). totals.after noAxis (take (suc i) s)) (sym (counted-sightings u axis es))
+
+      unmarked-at :
+          (fine : ℕ) → 0 < fine → (angles : List ℤ) → TrueAngles fine (counted u axis es) angles
+          → sighting u 0 axis (getD es i []) .fit ≡ true → mark ≡ false
+          → (k : ℕ) × (k ≤ i) × FirstFit (counted u axis es) k
+          × Stands u 0 axis fine (getD angles k (pos 0)) (getD angles i (pos 0)) (getD os i noDatagram)
+      unmarked-at fine some angles A fit m =
+          let cs = counted u axis es in
+          let here = getD-map (countedSighting u axis) es i [] slipped.none l in
+          let r =
+          unmarked-stands (u .rate) fine some cs angles A true 0 i (omega (arith, length-map es (countedSighting u axis)))
+          (ap (λ (c : Counted). c .sighting .fit) here ∙ fit) (sym marked-by ∙ m) in (
+            r .0,
+            r .1,
+            r .2,
+            stands-told es a i l 0 axis (omega arith) k fine (getD angles (r .0) (pos 0)) (getD angles i (pos 0))
+                (subst (λ (x : Axis). totals.Stands fine (getD angles (r .0) (pos 0)) (getD angles i (pos 0)) x) (sym axis-ruled) (r .3)),
+          )
+
+      sampled-at :
+          (fine : ℕ) → 0 < fine → (angle : ℕ → ℤ) (at : List ℕ) → SampledAngles fine (counted u axis es) angle at
+          → sighting u 0 axis (getD es i []) .fit ≡ true → mark ≡ false
+          → (k : ℕ) × (k ≤ i) × FirstFit (counted u axis es) k × Stands u 0 axis fine (angle (getD at k 0)) (angle (getD at i 0)) (getD os i noDatagram)
+      sampled-at fine some angle at A fit m =
+          let r = unmarked-at fine some (map angle at) (sampled-angles fine angle (counted u axis es) at A) fit m in
+          let long = length-map es (countedSighting u axis) in (
+            r .0,
+            r .1,
+            r .2,
+            subst (λ (z : ℤ). Stands u 0 axis fine z (angle (getD at i 0)) (getD os i noDatagram))
+                (getD-map angle at (r .0) 0 (pos 0) (omega (arith, r .1, A .one-each)))
+                (subst (λ (z : ℤ). Stands u 0 axis fine (getD (map angle at) (r .0) (pos 0)) z (getD os i noDatagram))
+                (getD-map angle at i 0 (pos 0) (omega (arith, A .one-each))) (r .3)),
+          )
 
   -- ---- each true value is carried by one of the datagrams
 
@@ -259,10 +328,29 @@ module _ (u : Setup) (ok : rulingOn u ≡ Accepted) where
         all-carried = all-carried-at;
       }
 
+  -- the marks of a gyro that keeps no totals, and of one that keeps them
+  pub doubtful-totals : DoubtfulTotals u
+  doubtful-totals =
+      record {
+        marked =
+            λ c es a three axis k i l.
+            let e = marked-by c es a three axis k i l in
+            let ds = take (suc i) (counted u axis es) in (
+              λ m. marked-slipped (u .rate) ds true 0 (sym e ∙ m),
+              λ s. e ∙ slipped-marks (u .rate) ds true 0 s,
+            );
+        never =
+            λ c es a other axis k i l.
+            ap (λ (os : List Datagram). markAt (getD os i noDatagram .doubtful) axis) (answers c es a)
+            ∙ mark-unkept u axis ok k es i l (other-not-kept u ok 0 other);
+        unmarked = λ c es a three axis k fine some angles A i l fit m. unmarked-at c es a three axis k i l fine some angles A fit m;
+        unmarked-by-samples = λ c es a three axis k fine some angle at A i l fit m. sampled-at c es a three axis k i l fine some angle at A fit m;
+      }
+
   -- the session counts the datagrams handed out
-  counted :
+  counted-all :
       {ps : List (List ℕ)} {os : List Datagram} {rs : List Report} {t : Session} → FedInTurn u ps os rs t → t .history .datagrams .0 ≡ length os
-  counted c =
+  counted-all c =
       let es = delivered c .datagrams in
       omega (
         arith,
@@ -323,7 +411,7 @@ one-length =
       none-taken = λ s t h. empty-call s (ten-sound s t) h;
       held-undecided = λ s t. undecided-held s (ten-sound s t);
       last-byte = λ s t p q. handed-last s (ten-sound s t) p (told-handed (feedOf s p .datagram) (feedOf s p .answer) q);
-      counted = λ u e c. let ok = number-accepted u e in (counted u ok c, bytes-sum u ok c);
+      counted = λ u e c. let ok = number-accepted u e in (counted-all u ok c, bytes-sum u ok c);
     }
 
 -- Every call, on any session and any piece

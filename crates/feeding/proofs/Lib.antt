@@ -9,8 +9,10 @@ pub mod OneLength
 pub mod DatagramLaws
 pub mod ContainedAt
 pub mod AxisAt
+pub mod DoubtAt
 pub mod CallCases
 pub mod Demands
 pub mod WorkedExample
 pub mod InclinometerExample
 pub mod LimitExample
+pub mod SlippedExample

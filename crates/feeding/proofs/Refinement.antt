@@ -17,7 +17,7 @@ use Rattle.setup.specs.declared.Setup.{Setup}
 use Rattle.setup.specs.declared.Ruling.the-variants.{Accepted}
 use Rattle.scan.proofs.RunLaws.{Safe}
 use Rattle.search.specs.Search.{rulesOf}
-use Rattle.admission.specs.Admission.{heldBytes, allZero, axesRight, isSound}
+use Rattle.admission.specs.Admission.{heldBytes, allZero, keptRight, isSound}
 use Rattle.history.specs.declared.History.{History}
 use Rattle.session.specs.declared.Session.{Session}
 use Rattle.feeding.specs.Feed.{historyRight, consumer, SessionState, stateOf, sessionOf}
@@ -30,13 +30,13 @@ SafeOf u t = Safe (consumer u) (rulesOf u) t
 -- ---- what refusal 10 asks of what is kept, by parts
 
 module _ (u : Setup) (n : ℕ) (x : History) where
-  pub history-parts : historyRight u n x ≡ true → (n ≡ lengthOf u * x .datagrams .0) × (axesRight u (x .datagrams .0) (x .axes) ≡ true)
+  pub history-parts : historyRight u n x ≡ true → (n ≡ lengthOf u * x .datagrams .0) × (keptRight u x ≡ true)
   unfolding historyRight
   history-parts e =
-      let a = and-split (eqb n (lengthOf u * x .datagrams .0)) (axesRight u (x .datagrams .0) (x .axes)) e in
+      let a = and-split (eqb n (lengthOf u * x .datagrams .0)) (keptRight u x) e in
       (eqb-true n (lengthOf u * x .datagrams .0) (a .0), a .1)
 
-  pub parts-history : n ≡ lengthOf u * x .datagrams .0 → axesRight u (x .datagrams .0) (x .axes) ≡ true → historyRight u n x ≡ true
+  pub parts-history : n ≡ lengthOf u * x .datagrams .0 → keptRight u x ≡ true → historyRight u n x ≡ true
   unfolding historyRight
   parts-history e a = and-true (eq-eqb n (lengthOf u * x .datagrams .0) e) a
 
@@ -49,7 +49,7 @@ pub facts-safe : (s : Session) → Facts s → SafeOf (s .setup) (stateOf s)
 facts-safe s F =
     record {
       scan = record { ruled = F .held; sum = omega (arith, F .sum, count-held s F); most = F .most };
-      admitted = parts-history (s .setup) (lengthOf (s .setup) * s .history .datagrams .0) (stateOf s .carried) refl (F .axes);
+      admitted = parts-history (s .setup) (lengthOf (s .setup) * s .history .datagrams .0) (stateOf s .carried) refl (F .kept);
     }
 
 pub state-safe : (s : Session) → isSound s ≡ true → SafeOf (s .setup) (stateOf s)
@@ -95,7 +95,7 @@ module _ (u : Setup) (ok : rulingOn u ≡ Accepted) (t : SessionState) (Z : Safe
         rest = ap allZero (padded-rest 64 l) ∙ zeros-zero (64 - length l);
         sum = omega (arith, k .0, Z .scan .sum);
         most = Z .scan .most;
-        axes = k .1;
+        kept = k .1;
       })
 
 -- a session of 64 bytes is that of what it stands for

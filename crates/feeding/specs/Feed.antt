@@ -1,12 +1,12 @@
--- 01, The scan; Status, doubles, gaps; Totals; What is turned down, 10 to 12; 02, 2.3: what a call of feed answers.
+-- 01, The scan; Status, doubles, gaps; Totals; What is turned down, 10 to 12; 02, 2.3, 2.5: what a call of feed answers.
 use Prim.Native.Nat.{ℕ, _*_}
-use mathlib.Core.Bool.{Bool, _&&_}
+use mathlib.Core.Bool.{Bool, false, _&&_}
 use mathlib.Core.List.{List, [], _∷_, map}
 use mathlib.Core.Option.{Option, none, some}
 use lib.Dec.{eqb}
 use lib.IntN.{ℤ, pos}
 use lib.ListN.{length, getD}
-use Rattle.setup.specs.Setup.{lengthOf}
+use Rattle.setup.specs.Setup.{hertz, lengthOf}
 use Rattle.setup.specs.declared.Setup.{Setup}
 use Rattle.setup.specs.declared.Ruling as ruling
 use Rattle.setup.specs.declared.Ruling.{Ruling}
@@ -20,7 +20,6 @@ use Rattle.gaps.specs.declared.Gap.the-variants.{Missed}
 use Rattle.motion.specs.Status.{flagged}
 use Rattle.motion.specs.Judgements.{judgementsOf}
 use Rattle.motion.specs.Totals.{noAxes, keptBy, totalsOf}
-use Rattle.motion.specs.declared.Axes.{Axes}
 use Rattle.motion.specs.declared.Judgement.the-variants.{Fit}
 use Rattle.motion.specs.declared.GroupJudgements.{GroupJudgements}
 use Rattle.motion.specs.declared.Judgements.{Judgements}
@@ -28,6 +27,8 @@ use Rattle.doubles.specs.Doubles.{plusZero, groupValues, totalDoubles}
 use Rattle.doubles.specs.declared.Values.{Values}
 use Rattle.doubles.specs.declared.Values.the-variants.{Instantaneous}
 use Rattle.doubles.specs.declared.TotalDoubles.{TotalDoubles}
+use Rattle.doubt.specs.Doubt.{marksOf}
+use Rattle.doubt.specs.declared.GyroMarks.{GyroMarks}
 use Rattle.scan.specs.Calls as calls
 use Rattle.scan.specs.Calls.{Fed, Report, Run}
 use Rattle.scan.specs.Carry as carry
@@ -35,7 +36,7 @@ use Rattle.scan.specs.Carry.{Consumer, carrying}
 use Rattle.search.specs.Search.{verdictOf}
 use Rattle.history.specs.History.{noHistory, awaitsFirst, historyNext}
 use Rattle.session.specs.Session.{sessionWith}
-use Rattle.admission.specs.Admission.{heldBytes, axesRight, pieceRuling}
+use Rattle.admission.specs.Admission.{heldBytes, keptRight, pieceRuling}
 use Rattle.history.specs.declared.History.{History}
 use Rattle.session.specs.declared.Session.{Session}
 use Rattle.feeding.specs.declared.Datagram.{Datagram}
@@ -47,9 +48,9 @@ use Rattle.feeding.specs.declared.Reply.{Reply}
 
 -- by what an accepted setup says of its sensor
 module _ (s : Sensor) where
-  -- a datagram as it comes back, of its contents; gap: what lies before it; a: the axes after it
-  unfoldable pub datagramWith : Gap → Contents → Axes → Datagram
-  datagramWith gap c a =
+  -- a datagram as it comes back, of its contents; gap: what lies before it; h: the history behind it
+  unfoldable pub datagramWith : Gap → Contents → History → Datagram
+  datagramWith gap c h =
       record {
         gyro = getD (c .readings) 0 [];
         accelerometer = getD (c .readings) 1 [];
@@ -59,32 +60,33 @@ module _ (s : Sensor) where
         judgements = judgementsOf (c .statuses);
         values = groupValues (s .units) (s .shifts) (c .readings);
         gap = gap;
-        totals = totalsOf a;
-        doubles = totalDoubles (s .shifts) a;
+        totals = totalsOf (h .axes);
+        doubles = totalDoubles (s .shifts) (h .axes);
+        doubtful = marksOf (h .doubt);
       }
 
-  -- the history behind a datagram
+  -- the history behind a datagram; first: whether it counts as a first one
   unfoldable pub historyAfter : Bool → History → List ℕ → History
   historyAfter first h d =
       let c : Contents = contentsOf (s .row) d in
-      historyNext (keptBy (s .row) (s .units)) h (c .readings) (c .statuses) (c .counter)
+      historyNext (hertz (s .rate)) (keptBy (s .row) (s .units)) first h (c .readings) (c .statuses) (c .counter)
 
-  -- what comes back with it; first: whether it counts as a first one
+  -- what comes back with it
   unfoldable pub tell : Bool → History → List ℕ → Datagram
   tell first h d =
       let c : Contents = contentsOf (s .row) d in
-      datagramWith (gapBetween (s .rate) first (h .previous) (c .counter)) c (historyAfter first h d .axes)
+      datagramWith (gapBetween (s .rate) first (h .previous) (c .counter)) c (historyAfter first h d)
 
 module _ (u : Setup) where
   -- what refusal 10 asks of the history, n bytes having been handed out
   unfoldable pub historyRight : ℕ → History → Bool
-  historyRight n h = eqb n (lengthOf u * h .datagrams .0) && axesRight u (h .datagrams .0) (h .axes)
+  historyRight n h = eqb n (lengthOf u * h .datagrams .0) && keptRight u h
 
   abbrev pub consumer : Consumer History Datagram
   consumer =
       record { start = noHistory; awaitsFirst = awaitsFirst; step = historyAfter (sensorOf u); tell = tell (sensorOf u); admits = historyRight }
 
--- ---- where no datagram is handed out: zeros, unit 0, every axis fit
+-- ---- where no datagram is handed out: zeros, unit 0, every axis fit, no total doubtful
 
 abbrev pub noReadings : List ℤ
 noReadings = pos 0 ∷ pos 0 ∷ pos 0 ∷ []
@@ -126,6 +128,9 @@ noDoubles =
       «inclinometer_z» = plusZero;
     }
 
+abbrev pub noMarks : GyroMarks
+noMarks = record { x = false; y = false; z = false }
+
 unfoldable pub noDatagram : Datagram
 noDatagram =
     record {
@@ -139,6 +144,7 @@ noDatagram =
       gap = Missed (datagrams 0);
       totals = totalsOf noAxes;
       doubles = noDoubles;
+      doubtful = noMarks;
     }
 
 -- ---- a session as the scan's state: the bytes and counts of the scan, and the history beside them

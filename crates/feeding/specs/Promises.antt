@@ -1,7 +1,7 @@
--- What the request asks of feeding (00-mission, demands 2 and 3; 01, How firmly it is promised, Totals), as types over the rules:
+-- What the requests ask of feeding (00-mission, demands 2 and 3; 01, How firmly it is promised, Totals; 02, 2.5), as types over the rules:
 -- every call on any session; and, of a setup, lists of pieces fed in turn.
 use Prim.Native.Nat.{ℕ, suc, _+_, _-_, _*_, _^_, _≤_, _<_}
-use mathlib.Core.Bool.{Bool, true, cond}
+use mathlib.Core.Bool.{Bool, true, false, cond}
 use mathlib.Core.List.{List, [], _∷_, _++_, map}
 use mathlib.Core.Option.{none, some}
 use mathlib.Core.Path.{_≡_}
@@ -21,6 +21,8 @@ use Rattle.motion.specs.declared.Judgement.the-variants.{Fit}
 use Rattle.motion.specs.declared.GroupJudgements.{GroupJudgements}
 use Rattle.motion.specs.Totals.{noAxis, Sighting, axisStep, keeps, axisAt, totalAt, fitReadings, fitBefore, readingOf, Close, totalOf, after}
 use Rattle.doubles.specs.Doubles.{negative, plusZero, unitNumberIn, doublesIn, valuesFor, doubleAt}
+use Rattle.doubt.specs.Doubt.{added, noDoubt, doubtStep, doubtAt, markAt}
+use Rattle.doubt.specs.Slipped.{Counted, MaySlip, TrueAngles, SampledAngles, FirstFit}
 use Rattle.scan.specs.Scan.{scan, Undecided}
 use Rattle.scan.specs.Calls.{datagram, waiting, refused, Report}
 use Rattle.scan.specs.Stream.{stream, reports, NoTen, Begins, Among}
@@ -100,7 +102,7 @@ pub record Exact (u : Setup) (d : List ℕ) (o : Datagram) (group axis : ℕ) : 
       (natAbs (sighting u group axis d .reading)) (2 ^ shiftOf u group)
   pub double : TotalExact u group axis o
 
--- where no datagram is handed out: zeros and unit 0 in its place, every axis fit
+-- where no datagram is handed out: zeros and unit 0 in its place, every axis fit, no total doubtful
 pub record Zeros (o : Datagram) : Type 0 where
   pub readings : o .gyro ∷ o .accelerometer ∷ o .inclinometer ∷ [] ≡ replicate 3 (replicate 3 (pos 0))
   pub statuses : o .fields .statuses ≡ replicate 3 0
@@ -119,6 +121,7 @@ pub record Zeros (o : Datagram) : Type 0 where
   pub value : (group axis : ℕ) → group < 3 → axis < 3 → getD (doublesIn (valuesFor (o .values) group)) axis nan ≡ plusZero
   pub total : (group axis : ℕ) → group < 3 → axis < 3 → totalAt (o .totals) group axis ≡ totalOf noAxis
   pub double : (group axis : ℕ) → group < 3 → axis < 3 → doubleAt (o .doubles) group axis ≡ plusZero
+  pub unmarked : (axis : ℕ) → axis < 3 → markAt (o .doubtful) axis ≡ false
 
 -- ---- every call
 
@@ -158,6 +161,16 @@ pub record CallHands (s : Session) (p : List ℕ) (r : Reply) : Type 0 where
       ≡ cond (keeps (s .setup) group) (axisStep (axisAt (s .history .axes) group axis) (sighting (s .setup) group axis found)) noAxis
   pub totals :
       (group axis : ℕ) → group < 3 → axis < 3 → totalAt (r .datagram .totals) group axis ≡ totalOf (axisAt (r .session .history .axes) group axis)
+  -- and the sum and the mark of each gyro axis by the rule for one axis, which where the gyro keeps no totals are 0 and none; the marks that come back are
+  -- those then (02, 2.5)
+  pub doubt :
+      (axis : ℕ) → axis < 3
+      → doubtAt (r .session .history .doubt) axis
+      ≡ cond (keeps (s .setup) 0)
+      (doubtStep (s .setup .rate) (axisAt (s .history .axes) 0 axis .begun) (sighting (s .setup) 0 axis found .fit) (doubtAt (s .history .doubt) axis)
+      (added (awaitsFirst (s .history)) (s .history .previous) (fieldsOf (s .setup .identifier) found .counter)))
+      noDoubt
+  pub marks : (axis : ℕ) → axis < 3 → markAt (r .datagram .doubtful) axis ≡ doubtAt (r .session .history .doubt) axis .marked
 
 -- one that waits for more
 pub record CallWaits (s : Session) (p : List ℕ) (r : Reply) : Type 0 where
@@ -182,7 +195,7 @@ pub record EveryCall : Type 0 where
   pub hands :
       (s : Session) → PassesTen s → (p : List ℕ) → call s p .answer ≡ datagram (feedOf s p .datagram) → CallHands s p (feedOf s p)
   pub waits : (s : Session) → PassesTen s → (p : List ℕ) → call s p .answer ≡ waiting → CallWaits s p (feedOf s p)
-  -- in whose answer, and in a refusal's, that place holds zeros and unit 0, every axis fit
+  -- in whose answer, and in a refusal's, that place holds zeros and unit 0, every axis fit, no total doubtful
   pub zeros : Zeros noDatagram
   -- what holds only while all datagrams have one length
   pub one-length : OneLength
@@ -292,3 +305,49 @@ pub record Demand3 (u : Setup) : Type 0 where
   pub all-carried :
       (es : List (List ℕ)) (group axis fine : ℕ) (ts : List ℤ) → Carry fine (sightings u group axis es) ts → (k : ℕ) → k < length ts
       → (i : ℕ) × (i < length es) × (sighting u group axis (getD es i []) .fit ≡ true) × (fitBefore (sightings u group axis es) i ≡ k)
+
+-- ---- 02, 2.5: totals that may have slipped
+
+-- what a gyro axis sees of a datagram, with the datagram's counter
+abbrev pub countedSighting : Setup → ℕ → List ℕ → Counted
+countedSighting u axis d = record { sighting = sighting u 0 axis d; counter = fieldsOf (u .identifier) d .counter }
+
+abbrev pub counted : Setup → ℕ → List (List ℕ) → List Counted
+counted u axis ds = map (countedSighting u axis) ds
+
+-- of a setup whose gyro is set to integrated, each gyro axis by itself; in the units of the true angles that carry over an output step, of any shift:
+-- with 21 the bound on their change is 480 °/s
+pub record DoubtfulTotals (u : Setup) : Type 0 where
+  -- the mark that comes back with the datagram at a place, fit or not, is true if and only if, at some fit place up to and including it behind the axis's
+  -- first fit one, the d's of the datagrams since the fit place before add up to more than 16, or the rate is 0
+  pub marked :
+      {ps : List (List ℕ)} {os : List Datagram} {rs : List Report} {t : Session} → FedInTurn u ps os rs t
+      → (es : List (List ℕ)) → Among (isDatagram u) (streamOf u ps) es
+      → getD (u .units) 0 0 ≡ 3 → (axis : ℕ) → axis < 3 → (i : ℕ) → i < length es
+      → (markAt (getD os i noDatagram .doubtful) axis ≡ true → MaySlip (u .rate) (take (suc i) (counted u axis es)))
+      × (MaySlip (u .rate) (take (suc i) (counted u axis es)) → markAt (getD os i noDatagram .doubtful) axis ≡ true)
+  -- of any other setup there is no mark
+  pub never :
+      {ps : List (List ℕ)} {os : List Datagram} {rs : List Report} {t : Session} → FedInTurn u ps os rs t
+      → (es : List (List ℕ)) → Among (isDatagram u) (streamOf u ps) es
+      → (getD (u .units) 0 0 ≡ 3 → ⊥) → (axis : ℕ) → axis < 3 → (i : ℕ) → i < length es → markAt (getD os i noDatagram .doubtful) axis ≡ false
+  -- where neighbouring datagrams lie 1 to 255 samples apart, by which their counters differ modulo 256, 100 × the change of the true angle between them is at most
+  -- 50,331,648 × fine for each of these samples, and each fit one carries its angle: every total that isn't marked and comes back with a fit datagram stands
+  -- for the true change since the axis's first fit one
+  pub unmarked :
+      {ps : List (List ℕ)} {os : List Datagram} {rs : List Report} {t : Session} → FedInTurn u ps os rs t
+      → (es : List (List ℕ)) → Among (isDatagram u) (streamOf u ps) es
+      → getD (u .units) 0 0 ≡ 3 → (axis : ℕ) → axis < 3
+      → (fine : ℕ) → 0 < fine → (angles : List ℤ) → TrueAngles fine (counted u axis es) angles
+      → (i : ℕ) → i < length es → sighting u 0 axis (getD es i []) .fit ≡ true → markAt (getD os i noDatagram .doubtful) axis ≡ false
+      → (k : ℕ) × (k ≤ i) × FirstFit (counted u axis es) k
+      × Stands u 0 axis fine (getD angles k (pos 0)) (getD angles i (pos 0)) (getD os i noDatagram)
+  -- the same with a true angle at each internal sample, 100 × the change in each of which is at most 50,331,648 × fine; at: the sample of each datagram
+  pub unmarked-by-samples :
+      {ps : List (List ℕ)} {os : List Datagram} {rs : List Report} {t : Session} → FedInTurn u ps os rs t
+      → (es : List (List ℕ)) → Among (isDatagram u) (streamOf u ps) es
+      → getD (u .units) 0 0 ≡ 3 → (axis : ℕ) → axis < 3
+      → (fine : ℕ) → 0 < fine → (angle : ℕ → ℤ) (at : List ℕ) → SampledAngles fine (counted u axis es) angle at
+      → (i : ℕ) → i < length es → sighting u 0 axis (getD es i []) .fit ≡ true → markAt (getD os i noDatagram .doubtful) axis ≡ false
+      → (k : ℕ) × (k ≤ i) × FirstFit (counted u axis es) k
+      × Stands u 0 axis fine (angle (getD at k 0)) (angle (getD at i 0)) (getD os i noDatagram)

@@ -1,6 +1,7 @@
-// What feeding a session gives back: no code (01, The scan; Status, doubles, gaps; Totals; 02, 2.3).
+// What feeding a session gives back: no code (01, The scan; Status, doubles, gaps; Totals; 02, 2.3, 2.5).
 use doubles::GroupValues;
 use doubles::TotalDoubles;
+use doubt::GyroMarks;
 use gaps::Gap;
 use motion::Judgements;
 use motion::Totals;
@@ -23,6 +24,8 @@ pub struct Datagram {
     pub gap: Gap,
     pub totals: Totals,
     pub doubles: TotalDoubles,
+    // whether the total of each gyro axis is doubtful
+    pub doubtful: GyroMarks,
 }
 
 // What happened: a datagram was handed out, the piece ended, the call was refused by a number.
@@ -32,7 +35,7 @@ pub enum Answer {
     Refused(u8),
 }
 
-// What a call tells: which happened, how many bytes it took, the new session, and the datagram, zeros and every axis fit where none is handed out.
+// What a call tells: which happened, how many bytes it took, the new session, and the datagram, zeros, every axis fit and no mark where none is handed out.
 pub struct Reply {
     pub answer: Answer,
     pub taken: usize,

@@ -49,6 +49,14 @@ elapsed-back p n h k =
     by true q e = let z : (n + 256 - p) % 256 ≡ 0 = eqb-true ((n + 256 - p) % 256) 0 q in let f : elapsed p n .0 ≡ 256 = rw q at e in omega arith
     by false q e = let f : elapsed p n .0 ≡ (n + 256 - p) % 256 = rw q at e in omega arith
 
+-- counters that differ by n samples modulo 256, 1 to 255, have n as their d
+pub elapsed-by : (previous counter n : ℕ) → 1 ≤ n → n ≤ 255 → (previous + n) % 256 ≡ counter → elapsed previous counter .0 ≡ n
+unfolding elapsed
+elapsed-by p c n h k e =
+    let z = pos c -ℤ pos p in
+    let r : residue z 256 ≡ n = omega (arith, floor-split z 256 (omega arith), residue-below z 256 (omega arith), sub-parts (pos c) (pos p)) in
+    rw (r, ne-eqb n 0 (λ x. omega arith))
+
 -- up to a rate of 2,000 there is a sample at least from one datagram to the next
 step-positive : (rate : ℕ) → 0 < rate → rate ≤ 2000 → 0 < 2000 / rate
 step-positive r h k = le-div-iff-mul-le {k = r} {x = 1} {y = 2000} h .1 (omega arith)

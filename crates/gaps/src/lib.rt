@@ -16,8 +16,8 @@ pub enum Gap {
     OffStep,
 }
 
-// The internal samples from one counter to the next.
-fn elapsed(previous: u8, counter: u8) -> Samples
+// The internal samples from one counter to the next, 1 to 256 (01, Status, doubles, gaps).
+pub fn elapsed(previous: u8, counter: u8) -> Samples
     ensures { λ r. ⌜ r ≡ elapsed previous counter ⌝ }
 {
     let d = (counter as u32 + 256 - previous as u32) % 256;

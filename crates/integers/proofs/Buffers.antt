@@ -1,7 +1,7 @@
 -- Laws of bytes in a buffer: parts of a list as a slice gives them, zeros behind bytes, and bytes written behind others. Assumes nothing.
 use Prim.Native.Nat.{ℕ, zero, suc, _+_, _-_, _≤_, _<_, min}
 use mathlib.Core.Path.{_≡_, refl, sym, ap, _∙_}
-use mathlib.Core.List.{List, [], _∷_, _++_, append-assoc, append-nil}
+use mathlib.Core.List.{List, [], _∷_, _++_, map, append-assoc, append-nil}
 use native.Mathlib.Nat.{add-zero, zero-add, add-suc, suc-add}
 use native.Mathlib.Decide.{decLe}
 use native.Mathlib.Omega.{arith}
@@ -30,6 +30,19 @@ take-least n k l e = go (decLe (length l) n)
     go : Dec (length l ≤ n) → take k l ≡ take n l
     go (yes h) = take-all k l (omega arith) ∙ sym (take-all n l h)
     go (no h) = let m : k ≡ n = omega arith in ap (λ (j : ℕ). take j l) m
+
+-- the first n of what is made of each
+pub take-map : {A B : Type 0} (f : A → B) (l : List A) (n : ℕ) → take n (map f l) ≡ map f (take n l)
+take-map f [] zero = refl
+take-map f [] (suc n) = refl
+take-map f (x ∷ l) zero = refl
+take-map {B = B} f (x ∷ l) (suc n) = ap (λ (m : List B). f x ∷ m) (take-map f l n)
+
+-- what is made of the one at a place
+pub getD-map : {A B : Type 0} (f : A → B) (l : List A) (i : ℕ) (a : A) (b : B) → i < length l → getD (map f l) i b ≡ f (getD l i a)
+getD-map f [] i a b h = absurd (omega arith)
+getD-map f (x ∷ l) zero a b h = refl
+getD-map f (x ∷ l) (suc i) a b h = getD-map f l i a b (omega arith)
 
 -- ---- zeros behind bytes
 

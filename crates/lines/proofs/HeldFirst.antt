@@ -129,7 +129,7 @@ module _ (s : Session) (p : List ℕ) (room : ℕ) (a : Permitted s (length p) r
         ∙ ap (λ (v : List ℕ). passing (H .place) (handing datagram (scan (verdictOf setup) v))) rest
 
     short : length line ≤ longestLine
-    short = line-short setup (facts .accepted) kept datagram (facts .axes) (H .complete .good) few
+    short = line-short setup (facts .accepted) kept datagram (facts .kept) (H .complete .good) few
 
     -- its line is the next one, and nothing refuses it
     pub first-line : lineOf setup (turn .session .history .datagrams .0) (turn .datagram) ≡ line
@@ -143,7 +143,7 @@ module _ (s : Session) (p : List ℕ) (room : ℕ) (a : Permitted s (length p) r
         (λ i.
         let o = told-datagram setup (facts .accepted) (awaitsFirst kept) kept datagram i in
         outside (add-one (s .history .datagrams .0) i) (o .gyro ∷ o .accelerometer ∷ o .inclinometer ∷ []) (o .totals))
-        ∙ line-inside setup (facts .accepted) kept datagram (facts .axes) (H .complete .good) few
+        ∙ line-inside setup (facts .accepted) kept datagram (facts .kept) (H .complete .good) few
 
     pub first-short : length (lineOf setup (turn .session .history .datagrams .0) (turn .datagram)) ≤ longestLine
     first-short = subst (λ (t : List ℕ). length t ≤ longestLine) (sym first-line) short
@@ -158,7 +158,7 @@ module _ (s : Session) (p : List ℕ) (room : ℕ) (a : Permitted s (length p) r
           accepted = facts .accepted;
           within = taken-within;
           most = allowed .piece;
-          axes = right-next setup (facts .accepted) kept datagram (facts .axes) (H .complete .good);
+          kept = right-next setup (facts .accepted) kept datagram (facts .kept) (H .complete .good);
           few =
               omega (
                 arith,

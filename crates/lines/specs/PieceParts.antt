@@ -15,7 +15,7 @@ use Rattle.scan.specs.Scan.{Scanned, scan}
 use Rattle.scan.specs.Carry.{steps, carriedAfter}
 use Rattle.search.specs.Search.{limitsOf, rulesOf, verdictOf}
 use Rattle.history.specs.History.{greatestCount}
-use Rattle.admission.specs.Admission.{axesRight, pieceRuling}
+use Rattle.admission.specs.Admission.{keptRight, pieceRuling}
 use Rattle.session.specs.declared.Session.{Session}
 use Rattle.feeding.specs.Feed.{consumer, stateOf, sessionOf}
 use Rattle.whole_piece.specs.Lines.{behindBy, roomFor}
@@ -60,7 +60,7 @@ pub record Ready (u : Setup) (x : Progress) (end room : ℕ) : Type 0 where
   pub accepted : rulingOn u ≡ Accepted
   pub within : x .at ≤ end
   pub most : end ≤ limitsOf u .piece
-  pub axes : axesRight u (x .history .datagrams .0) (x .history .axes) ≡ true
+  pub kept : keptRight u (x .history) ≡ true
   pub few : lengthOf u * x .history .datagrams .0 + (end - x .at) ≤ limitsOf u .session
   pub passed : x .passed + (end - x .at) ≤ greatestCount
   pub roomy : longestLine * (end - x .at) + 18 * x .used ≤ 18 * room

@@ -118,7 +118,7 @@ fn one_line(
     let counter = wire::counter(row, d);
     let latency = wire::latency(row, d);
     let gap = history::gap_before(rate, before, counter);
-    let history = history::advance(kept, before, readings, statuses, counter);
+    let history = history::advance(rate, kept, before, readings, statuses, counter);
     let ordinal = history.datagrams;
     let axes = history.axes;
     let totals = motion::totals_of(axes);

@@ -1,13 +1,14 @@
 -- Bounds of what is kept of an axis: a total grows by at most 2 ^ 23 in size with a datagram, so it stays within 2 ^ 53 (01, Totals).
 -- Assumes nothing.
-use mathlib.Core.Path.{_≡_, refl, ap, _∙_}
-use mathlib.Core.Bool.{Bool, true, false, _&&_, cond}
+use mathlib.Core.Path.{_≡_, refl, sym, ap, _∙_}
+use mathlib.Core.Bool.{Bool, true, false, _&&_, _||_, cond}
 use mathlib.Core.List.{List, [], _∷_}
 use Prim.Native.Nat.{ℕ, zero, suc, _+_, _*_, _^_, _≤_, _<_}
 use native.Mathlib.Omega.{arith}
 use lib.IntN.{ℤ, natAbs, _-ℤ_}
 use lib.ListN.{length, take, getD}
 use Rattle.integers.specs.Ranges.{within}
+use Rattle.integers.proofs.Booleans.{or-true}
 use Rattle.integers.proofs.Sizes.{abs-add}
 use Rattle.integers.proofs.Ranges.{le-within}
 use Rattle.integers.proofs.Folding.{InRange, abs-of-range, fold-range}
@@ -88,6 +89,20 @@ step-not-kept a d = refl
 pub step-within : (a : Axis) (d : Sighting) → natAbs (a .total) ≤ 2 ^ 53 → keptStep true a d ≡ axisStep a d
 unfolding keptStep
 step-within a d h = rw (le-within (2 ^ 53) (a .total) h)
+
+-- ---- an axis has begun behind a fit datagram, and behind any if it had
+
+begun-by : (a : Axis) (d : Sighting) (b : Bool) → d .fit ≡ b → axisStep a d .begun ≡ (a .begun || b)
+unfolding axisStep fitStep
+begun-by a d true e = rw e (sym (or-true (a .begun) {t = true} refl))
+begun-by a d false e = rw e (unmoved (a .begun))
+  where
+    unmoved : (b : Bool) → b ≡ (b || false)
+    unmoved true = refl
+    unmoved false = refl
+
+pub begun-next : (a : Axis) (d : Sighting) → natAbs (a .total) ≤ 2 ^ 53 → keptStep true a d .begun ≡ (a .begun || d .fit)
+begun-next a d h = ap (λ (x : Axis). x .begun) (step-within a d h) ∙ begun-by a d (d .fit) refl
 
 -- ---- over a list of datagrams
 

@@ -10,7 +10,7 @@ use Rattle.integers.specs.Bytes.{twosComplement}
 use Rattle.setup.specs.declared.Setup.{Setup}
 use Rattle.wire.specs.Fields.{window}
 use Rattle.made_datagram.specs.declared.Values.{Values}
-use Rattle.gaps.specs.Gaps.{datagrams}
+use Rattle.gaps.specs.Gaps.{samples, datagrams}
 use Rattle.gaps.specs.declared.Gap.{Gap}
 use Rattle.gaps.specs.declared.Gap.the-variants.{Missed, OffStep}
 use Rattle.motion.specs.declared.Axis.{Axis}
@@ -19,6 +19,8 @@ use Rattle.motion.specs.declared.Axes.{Axes}
 use Rattle.motion.specs.declared.Total.{Total}
 use Rattle.motion.specs.declared.GroupTotals.{GroupTotals}
 use Rattle.motion.specs.declared.Totals.{Totals}
+use Rattle.doubt.specs.declared.AxisDoubt.{AxisDoubt}
+use Rattle.doubt.specs.declared.GyroDoubt.{GyroDoubt}
 use Rattle.history.specs.declared.History.{History}
 use Rattle.session.specs.declared.Session.{Session}
 
@@ -67,8 +69,14 @@ groupAxesAt s i = record { x = axisAt s i; y = axisAt s (i + 13); z = axisAt s (
 abbrev pub axesIn : List ℕ → Axes
 axesIn s = record { gyro = groupAxesAt s 114; accelerometer = groupAxesAt s 153; inclinometer = groupAxesAt s 192 }
 
-abbrev pub historyIn : List ℕ → History
-historyIn s = record { datagrams = datagrams (longAt s 89); previous = byteAt s 113; axes = axesIn s }
+unfoldable pub doubtAt : List ℕ → ℕ → AxisDoubt
+doubtAt s i = record { samples = samples (wordAt s i); marked = markAt s (i + 4) }
+
+unfoldable pub gyroDoubtIn : List ℕ → GyroDoubt
+gyroDoubtIn s = record { x = doubtAt s 231; y = doubtAt s 236; z = doubtAt s 241 }
+
+unfoldable pub historyIn : List ℕ → History
+historyIn s = record { datagrams = datagrams (longAt s 89); previous = byteAt s 113; axes = axesIn s; doubt = gyroDoubtIn s }
 
 unfoldable pub sessionIn : List ℕ → Session
 sessionIn s =

@@ -5,11 +5,14 @@ ghost use Rattle.integers.specs.Bytes.{twosComplement};
 ghost use Rattle.wire.specs.Fields.{window};
 ghost use Rattle.gaps.specs.Gaps.{datagrams};
 ghost use Rattle.probe.specs.Records.{byteAt, shortAt, wordAt, longAt, signedWordAt, signedLongAt, markAt};
-ghost use Rattle.probe.specs.Records.{threeAt, setupIn, axisAt, groupAxesAt, sessionIn};
+ghost use Rattle.probe.specs.Records.{threeAt, setupIn, axisAt, groupAxesAt, doubtAt, gyroDoubtIn, historyIn, sessionIn};
 ghost use Rattle.probe.specs.Records.{gapIn, rowAt, gridIn, statusesIn, totalAt, groupTotalsAt, totalsIn};
 ghost use Rattle.probe.specs.Records.{madeGridIn, valuesIn};
+use doubt::AxisDoubt;
+use doubt::GyroDoubt;
 use gaps::Datagrams;
 use gaps::Gap;
+use gaps::Samples;
 use history::History;
 use integers::byte_or_zero;
 use made_datagram::Values;
@@ -146,24 +149,53 @@ fn group_axes_at(s: &[u8], i: usize) -> GroupAxes
     }
 }
 
+// The sum and the mark of a gyro axis.
+fn doubt_at(s: &[u8], i: usize) -> AxisDoubt
+    requires { ⌜ i ≤ 4000 ⌝ }
+    ensures { λ r. ⌜ r ≡ doubtAt (now (s .entry)) i ⌝ }
+{
+    AxisDoubt {
+        samples: Samples(u32_at(s, i)),
+        marked: mark_at(s, i + 4),
+    }
+}
+
+fn gyro_doubt_of(s: &[u8]) -> GyroDoubt
+    ensures { λ r. ⌜ r ≡ gyroDoubtIn (now (s .entry)) ⌝ }
+{
+    GyroDoubt {
+        x: doubt_at(s, 231),
+        y: doubt_at(s, 236),
+        z: doubt_at(s, 241),
+    }
+}
+
+fn history_of(s: &[u8]) -> History
+    ensures { λ r. ⌜ r ≡ historyIn (now (s .entry)) ⌝ }
+{
+    let axes = Axes {
+        gyro: group_axes_at(s, 114),
+        accelerometer: group_axes_at(s, 153),
+        inclinometer: group_axes_at(s, 192),
+    };
+    let doubt = gyro_doubt_of(s);
+    History {
+        datagrams: Datagrams(u64_at(s, 89)),
+        previous: byte_or_zero(s, 113),
+        axes: axes,
+        doubt: doubt,
+    }
+}
+
 // The session of a record, which takes so many bytes there.
-pub(crate) const SESSION_SIZE: usize = 231;
+pub(crate) const SESSION_SIZE: usize = 246;
 
 pub(crate) fn session_of(s: &[u8]) -> Session
     ensures { λ r. ⌜ r ≡ sessionIn (now (s .entry)) ⌝ }
 {
     let setup = setup_of(s);
     let held = held_of(s);
-    let axes = Axes {
-        gyro: group_axes_at(s, 114),
-        accelerometer: group_axes_at(s, 153),
-        inclinometer: group_axes_at(s, 192),
-    };
-    let history = History {
-        datagrams: Datagrams(u64_at(s, 89)),
-        previous: byte_or_zero(s, 113),
-        axes: axes,
-    };
+    let history = history_of(s);
     Session {
         setup: setup,
         held: held,
@@ -312,13 +344,13 @@ pub(crate) fn made_fill_of(s: &[u8]) -> u8
 
 // The same for the lines of a whole piece, behind the session.
 pub(crate) fn lines_room_of(s: &[u8]) -> u32
-    ensures { λ r. ⌜ r ≡ wordAt (now (s .entry)) 231 ⌝ }
+    ensures { λ r. ⌜ r ≡ wordAt (now (s .entry)) 246 ⌝ }
 {
     u32_at(s, SESSION_SIZE)
 }
 
 pub(crate) fn lines_fill_of(s: &[u8]) -> u8
-    ensures { λ r. ⌜ r ≡ byteAt (now (s .entry)) 235 ⌝ }
+    ensures { λ r. ⌜ r ≡ byteAt (now (s .entry)) 250 ⌝ }
 {
     byte_or_zero(s, SESSION_SIZE + 4)
 }

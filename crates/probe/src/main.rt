@@ -12,7 +12,7 @@
 //     7, a rehearsal line: its bytes (0)
 // A setup is rate, identifier (one byte), termination, three units and three shifts. A session is the setup (0), held bytes (17), their
 // count (81), datagrams (89), bytes passed over (97), bytes fed (105), the previous counter (113), nine axes (114) of a begun mark, a last
-// reading and a total. A truncated record ends the program.
+// reading and a total, three gyro axes (231) of a sum and a mark. A truncated record ends the program.
 mod given;
 mod shown;
 

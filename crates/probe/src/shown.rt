@@ -3,6 +3,9 @@
 use doubles::GroupValues;
 use doubles::TotalDoubles;
 use doubles::Values;
+use doubt::AxisDoubt;
+use doubt::GyroDoubt;
+use doubt::GyroMarks;
 use feeding::Answer;
 use feeding::Datagram;
 use gaps::Gap;
@@ -169,6 +172,17 @@ fn put_axes(axes: Axes) {
     put_group_axes(axes.inclinometer);
 }
 
+fn put_doubt(doubt: AxisDoubt) {
+    put_number(doubt.samples.0 as u64);
+    put_mark(doubt.marked);
+}
+
+fn put_gyro_doubt(doubt: GyroDoubt) {
+    put_doubt(doubt.x);
+    put_doubt(doubt.y);
+    put_doubt(doubt.z);
+}
+
 // A line with every field of a session.
 pub(crate) fn put_session(session: Session) {
     let held = session.held;
@@ -182,6 +196,7 @@ pub(crate) fn put_session(session: Session) {
     put_number(session.fed);
     put_number(history.previous as u64);
     put_axes(history.axes);
+    put_gyro_doubt(history.doubt);
     end_line();
 }
 
@@ -273,6 +288,12 @@ fn put_readings(datagram: Datagram) {
     put_row(inclinometer);
 }
 
+fn put_marks(marks: GyroMarks) {
+    put_mark(marks.x);
+    put_mark(marks.y);
+    put_mark(marks.z);
+}
+
 // A line with every field of a datagram.
 pub(crate) fn put_datagram(datagram: Datagram) {
     let flagged = datagram.flagged;
@@ -286,6 +307,7 @@ pub(crate) fn put_datagram(datagram: Datagram) {
     put_gap(gap);
     put_totals(datagram.totals);
     put_total_doubles(datagram.doubles);
+    put_marks(datagram.doubtful);
     end_line();
 }
 

@@ -45,6 +45,7 @@ use Rattle.motion.proofs.AcceptedSetup.{integrated-kept, other-not-kept}
 use Rattle.motion.specs.Judgements.{judgementOf}
 use Rattle.motion.proofs.Status.{unfit-all, unfit-named, unfit-none-flagged, fit-unnamed, fit-clear}
 use Rattle.motion.proofs.Judged.{judged-fit, judged-integrity, judged-start-up, judged-error, judged-overload, judged-applies, fit-applies, judged-cases, judged-zero}
+use Rattle.doubt.proofs.DoubtLaws.{doubt-rules}
 use Rattle.doubles.proofs.Starred.{starred}
 use Rattle.shown_line.proofs.Thirteen.{inside-passes, passes-inside}
 use Rattle.search.specs.Search.{isDatagram}
@@ -223,6 +224,7 @@ paper-rules =
       trigger-missed = trigger-none;
       kept = λ u e group h q. integrated-kept u (number-accepted u e) group h q;
       not-kept = λ u e group n. other-not-kept u (number-accepted u e) group n;
+      doubt = doubt-rules;
       inside = inside-passes;
       passes = passes-inside;
       inside-widths = fifteen.inside-passes;

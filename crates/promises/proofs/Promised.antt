@@ -7,7 +7,7 @@ use Rattle.setup.proofs.Rules.{number-accepted}
 use Rattle.rehearsal.proofs.Nearest.{nearest-fits, nearest-zero}
 use Rattle.rehearsal.proofs.SentAgain.{sent-again}
 use Rattle.rehearsal.proofs.WorkedLines.{worked-line}
-use Rattle.feeding.proofs.Demands.{demand2, demand3, every-call}
+use Rattle.feeding.proofs.Demands.{demand2, demand3, doubtful-totals, every-call}
 use Rattle.promises.proofs.LinesInTurn.{lines-in-turn}
 use Rattle.promises.specs.Promised.{OfSetup, Promised}
 use Rattle.promises.proofs.MadeHere.{made-here}
@@ -18,7 +18,13 @@ use Rattle.promises.proofs.PaperRules.{paper-rules}
 of-setup : (u : Setup) → setupNumber u ≡ none → OfSetup u
 of-setup u e =
     let ok = number-accepted u e in
-    record { demand2 = demand2 u ok; demand3 = demand3 u ok; lines = lines-in-turn u ok; made-here = made-here u ok }
+    record {
+      demand2 = demand2 u ok;
+      demand3 = demand3 u ok;
+      doubtful-totals = doubtful-totals u ok;
+      lines = lines-in-turn u ok;
+      made-here = made-here u ok;
+    }
 
 pub promised : Promised
 promised =

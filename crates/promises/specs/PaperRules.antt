@@ -1,5 +1,5 @@
 -- What the rules say that the other promises are stated by, as facts: so that a rule that is wrong in its definition and in the code alike is shut out
--- here (01, The setup line; Layout by identifier; The scan; Status, doubles, gaps; Totals; The text line; Bench cases; 02, 2.1 to 2.3).
+-- here (01, The setup line; Layout by identifier; The scan; Status, doubles, gaps; Totals; The text line; Bench cases; 02, 2.1 to 2.3, 2.5).
 use Prim.Native.Nat.{ℕ, suc, _+_, _*_, _/_, _%_, _^_, _≤_, _<_}
 use mathlib.Core.Bool.{Bool, true, false, _||_, cond}
 use mathlib.Core.List.{List, [], _∷_, _++_}
@@ -30,6 +30,7 @@ use Rattle.motion.specs.declared.Judgement.the-variants.{Fit, Integrity, StartU
 use Rattle.motion.specs.Totals.{keeps}
 use Rattle.motion.specs.declared.Totals.{Totals}
 use Rattle.doubles.specs.Starred.{Starred}
+use Rattle.doubt.specs.DoubtRules.{DoubtRules}
 use Rattle.shown_line.specs.ShownLine.{outside}
 use Rattle.shown_line.specs.PassedLine.{PassesThirteen}
 use Rattle.search.specs.Search.{isDatagram}
@@ -111,6 +112,8 @@ pub record PaperRules : Type 0 where
   -- totals are kept of the groups set to integrated, and of no other
   pub kept : (u : Setup) → setupNumber u ≡ none → (group : ℕ) → group < 3 → getD (u .units) group 0 ≡ 3 → keeps u group ≡ true
   pub not-kept : (u : Setup) → setupNumber u ≡ none → (group : ℕ) → (getD (u .units) group 0 ≡ 3 → ⊥) → keeps u group ≡ false
+  -- the sum and the mark of a gyro axis, clause by clause
+  pub doubt : DoubtRules
   -- 13: it lets pass values of a line of which no clause fails, and no others
   pub inside :
       (ordinal : ℕ) (readings : List (List ℤ)) (totals : Totals) → outside ordinal readings totals ≡ false → PassesThirteen ordinal readings totals

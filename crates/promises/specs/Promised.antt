@@ -5,7 +5,7 @@ use mathlib.Core.Option.{none}
 use mathlib.Core.Path.{_≡_}
 use Rattle.setup.specs.Setup.{setupNumber}
 use Rattle.setup.specs.declared.Setup.{Setup}
-use Rattle.feeding.specs.Promises.{EveryCall, Demand2, Demand3}
+use Rattle.feeding.specs.Promises.{EveryCall, Demand2, Demand3, DoubtfulTotals}
 use Rattle.promises.specs.InTurn.{LinesInTurn}
 use Rattle.promises.specs.Demand1.{Demand1}
 use Rattle.promises.specs.BuildingBlocks.{BuildingBlocks}
@@ -13,11 +13,12 @@ use Rattle.promises.specs.PaperRules.{PaperRules}
 use Rattle.promises.specs.MadeHere.{MadeHere}
 use Rattle.promises.specs.Rehearsals.{Rehearsals}
 
--- of a setup: the datagrams of every stream (demand 2), the totals (demand 3), the lines of pieces received in turn, which are those of the
--- datagrams of demand 3, and datagrams made here (02, 2.1)
+-- of a setup: the datagrams of every stream (demand 2), the totals (demand 3), which of them may have slipped (02, 2.5), the lines of pieces received in
+-- turn, which are those of the datagrams of demand 3, and datagrams made here (02, 2.1)
 pub record OfSetup (u : Setup) : Type 0 where
   pub demand2 : Demand2 u
   pub demand3 : Demand3 u
+  pub doubtful-totals : DoubtfulTotals u
   pub lines : LinesInTurn u
   pub made-here : MadeHere u
 

@@ -84,9 +84,8 @@ fn hand_out(session: Session, sensor: Sensor, passed: usize, taken: usize, d: &[
     let counter = fields.counter;
     let gap = history::gap_before(rate, before, counter);
     let kept = motion::kept_groups(row, units);
-    let history = history::advance(kept, before, readings, statuses, counter);
-    let axes = history.axes;
-    let datagram = answers::datagram_of(sensor, gap, readings, fields, axes);
+    let history = history::advance(rate, kept, before, readings, statuses, counter);
+    let datagram = answers::datagram_of(sensor, gap, readings, fields, history);
     let after = session_behind(session, history, passed, taken, &d[..0]);
     Reply {
         answer: Answer::Datagram,

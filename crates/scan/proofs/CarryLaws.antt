@@ -60,6 +60,14 @@ module _ {X O : Type 0} (K : Consumer X O) where
   told-at x (d ∷ ds) zero o h = refl
   told-at x (d ∷ ds) (suc i) o h = told-at (steps K x d) ds i o (omega arith)
 
+  -- what is carried behind the datagram at a place
+  pub carried-next :
+      (x : X) (ds : List (List ℕ)) (i : ℕ) → i < length ds → carriedAfter K x (take (suc i) ds) ≡ steps K (carriedAfter K x (take i ds)) (getD ds i [])
+  unfolding carriedAfter
+  carried-next x [] i h = absurd (omega arith)
+  carried-next x (d ∷ ds) zero h = refl
+  carried-next x (d ∷ ds) (suc i) h = carried-next (steps K x d) ds i (omega arith)
+
   pub told-beyond : (x : X) (ds : List (List ℕ)) (i : ℕ) (o : O) → length ds ≤ i → getD (told K x ds) i o ≡ o
   unfolding told
   told-beyond x [] i o h = refl

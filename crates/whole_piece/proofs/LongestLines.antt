@@ -17,7 +17,7 @@ use Rattle.search.specs.Search.{isDatagram, limitsOf}
 use Rattle.search.proofs.Datagrams.{datagram-length, among-found}
 use Rattle.history.specs.History.{historyNext}
 use Rattle.history.specs.declared.History.{History}
-use Rattle.admission.specs.Admission.{heldBytes, axesRight, pieceRuling}
+use Rattle.admission.specs.Admission.{heldBytes, keptRight, pieceRuling}
 use Rattle.admission.proofs.Soundness.{sound-facts}
 use Rattle.admission.proofs.PieceRulings.{admitted}
 use Rattle.session.specs.declared.Session.{Session}
@@ -32,7 +32,7 @@ module _ (u : Setup) (ok : rulingOn u ≡ Accepted) where
   -- each datagram of a stream has 18 bytes or more, and its line at most 307
   lines-longest :
       {v : List ℕ} {ds : List (List ℕ)} → Among (isDatagram u) v ds
-      → (k : History) → axesRight u (k .datagrams .0) (k .axes) ≡ true → lengthOf u * k .datagrams .0 + length v ≤ limitsOf u .session
+      → (k : History) → keptRight u k ≡ true → lengthOf u * k .datagrams .0 + length v ≤ limitsOf u .session
       → (length (linesAfter u (k .datagrams .0) (told (consumer u) k ds)) ≤ longestLine * length ds) × (18 * length ds ≤ length v)
   unfolding linesAfter told historyAfter historyNext
   lines-longest end k right few = (omega arith, omega arith)
@@ -63,7 +63,7 @@ lines-fit s p e =
     let parted = among-found u (F .accepted) v in
     let held = count-held s F in
     let all = length-append (heldBytes s) p in
-    let r = lines-longest u (F .accepted) parted (stateOf s .carried) (F .axes) (omega (arith, F .sum, A .session, held, all)) in
+    let r = lines-longest u (F .accepted) parted (stateOf s .carried) (F .kept) (omega (arith, F .sum, A .session, held, all)) in
     omega (arith, r .0, r .1, held, all, count-less s F, accepted-length u (F .accepted) .1)
 
 -- which is no more than is enough for any piece

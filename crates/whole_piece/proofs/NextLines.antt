@@ -33,9 +33,9 @@ use Rattle.scan.specs.Carry.{steps, told}
 use Rattle.search.specs.Search.{isDatagram, limitsOf}
 use Rattle.search.proofs.Datagrams.{datagram-parts}
 use Rattle.history.specs.History.{awaitsFirst, historyNext}
-use Rattle.admission.specs.Admission.{axesRight}
+use Rattle.admission.specs.Admission.{keptRight}
 use Rattle.history.specs.declared.History.{History}
-use Rattle.admission.proofs.AxisLaws.{axes-at, axes-step}
+use Rattle.admission.proofs.AxisLaws.{kept-axes, kept-step}
 use Rattle.feeding.specs.Feed.{historyAfter, datagramWith, consumer}
 use Rattle.feeding.proofs.BySetup.{after-datagram, told-datagram}
 use Rattle.whole_piece.specs.Lines.{lineOf, linesAfter}
@@ -66,7 +66,7 @@ module _ (u : Setup) (ok : rulingOn u ≡ Accepted) (x : History) (d : List ℕ)
   inside-it = fieldsOf (u .identifier) d
 
   abbrev pub nextHistory : History
-  nextHistory = historyNext (groupsKept u) x (inside-it .readings) (inside-it .statuses) (inside-it .counter)
+  nextHistory = historyNext (u .rate) (groupsKept u) (awaitsFirst x) x (inside-it .readings) (inside-it .statuses) (inside-it .counter)
 
   abbrev pub gapIn : Gap
   gapIn = gapAt (u .rate) (awaitsFirst x) (x .previous) (inside-it .counter)
@@ -78,20 +78,20 @@ module _ (u : Setup) (ok : rulingOn u ≡ Accepted) (x : History) (d : List ℕ)
   unfolding nextLine datagramWith fieldsOf
   next-line = ap (lineOf u (suc (x .datagrams .0))) (told-datagram u ok (awaitsFirst x) x d)
 
-  module _ (right : axesRight u (x .datagrams .0) (x .axes) ≡ true) (good : isDatagram u d ≡ true) where
+  module _ (right : keptRight u x ≡ true) (good : isDatagram u d ≡ true) where
     fits : Fitting inside-it
     fits = fields-fit (u .identifier) d (datagram-parts u d good .0)
 
-    axes-next : axesRight u (suc (x .datagrams .0)) (nextHistory .axes) ≡ true
-    unfolding historyNext
-    axes-next = axes-step (groupsKept u) (x .datagrams .0) (x .axes) (inside-it .readings) (inside-it .statuses) (fits .readings) right
+    kept-next : keptRight u nextHistory ≡ true
+    kept-next = kept-step (u .rate) (groupsKept u) (awaitsFirst x) x (inside-it .readings) (inside-it .statuses) (inside-it .counter) (fits .readings) right
 
-    -- the axes are right behind it
-    pub right-next : axesRight u (steps (consumer u) x d .datagrams .0) (steps (consumer u) x d .axes) ≡ true
+    -- what is kept is right behind it
+    pub right-next : keptRight u (steps (consumer u) x d) ≡ true
+    right-next = subst (λ (h : History). keptRight u h ≡ true) (sym (after-datagram u ok (awaitsFirst x) x d)) kept-next
+
+    counted-next : nextHistory .datagrams .0 ≡ suc (x .datagrams .0)
     unfolding historyNext
-    right-next =
-        subst (λ (h : History). axesRight u (h .datagrams .0) (h .axes) ≡ true) (sym (after-datagram u ok (awaitsFirst x) x d))
-        (subst (λ (k : ℕ). axesRight u k (nextHistory .axes) ≡ true) (sym (add-one (x .datagrams .0))) axes-next)
+    counted-next = add-one (x .datagrams .0)
 
     module _ (few : suc (x .datagrams .0) ≤ 2 ^ 30) where
       -- 13 doesn't refuse it
@@ -105,7 +105,8 @@ module _ (u : Setup) (ok : rulingOn u ≡ Accepted) (x : History) (d : List ℕ)
                 omega (
                   arith,
                   ap (λ (t : Total). natAbs (t .steps)) (total-at (nextHistory .axes) g k h l),
-                  axes-at (groupsKept u) (suc (x .datagrams .0)) (nextHistory .axes) axes-next g k h l .total,
+                  kept-axes (groupsKept u) nextHistory kept-next g k h l .total,
+                  counted-next,
                 );
             counted = λ e. omega arith;
           })

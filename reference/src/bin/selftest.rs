@@ -3,6 +3,9 @@
 //! compares those two on COUNT generated cases of a seed, instead of the usual
 //! ones.
 
+#[path = "selftest/sums.rs"]
+mod sums;
+
 use std::collections::HashSet;
 use std::env;
 use std::io::{self, Read};
@@ -82,6 +85,7 @@ fn main() {
     printed_steps();
     generated_steps();
     wrong_steps();
+    sums::check_all();
     fast_decimals();
     sessions_along_streams();
     plain_against_fast(seed, count);
@@ -676,7 +680,7 @@ fn listed_judgements() {
         let words = datagram_words(&answer);
         assert_eq!(words[10..13], statuses.map(|status: u8| status.to_string()));
         assert_eq!(words[32..41].join(" "), words_of(letters), "{statuses:?}");
-        assert_eq!(words.len(), 81);
+        assert_eq!(words.len(), 84);
     }
     // Where they stand: behind the flagged channels, before the gyro's unit.
     let words = " 1 0 0 fit overload fit fit fit fit fit fit fit 3 ";

@@ -1,5 +1,5 @@
 -- `admission::axes_right` meets its contract. Assumes nothing.
-use Rattle.admission.specs.Admission.{axesRightBy}
+use Rattle.admission.specs.Admission.{axesRight}
 use borrow.Author.Needs.{needs}
 use Rattle.admission.proofs.axes_right.Statement.{statement}
 use Rattle.admission.proofs.axes_right.Tie as tie
@@ -23,7 +23,7 @@ group-right-requires-3 : tie.Need-group-right-requires-3
 group-right-requires-3 c κs = search needs
 
 returns : tie.Need-returns
-unfolding axesRightBy
+unfolding axesRight
 returns c = rw (c .before .before .group-right .ensures, c .before .group-right2 .ensures, c .group-right3 .ensures)
 
 pub axes-right-spec : {M : Type 1} → statement M

@@ -25,7 +25,7 @@ use Rattle.admission.proofs.sound_by.Statement.{statement}
 use Rattle.admission.proofs.sound_by.Tie as tie
 
 abbrev from-length : tie.After-length-of → tie.Start
-from-length c = c .before .before .before .before .before .before .before .before
+from-length c = c .before .before .before .before .before .before .before
 
 held-long : (c : tie.Start) → length (c .args .session .held) ≡ 64
 held-long c = search needs
@@ -107,8 +107,8 @@ returns-2 c =
 kept-groups-requires : tie.Need-kept-groups-requires
 kept-groups-requires c κs = search needs
 
-axes-right-requires : tie.Need-axes-right-requires
-axes-right-requires c κs =
+history-right-requires : tie.Need-history-right-requires
+history-right-requires c κs =
     let e = c .before in
     let s = from-length (e .before .before .before .before) in
     let t = s .args .session in
@@ -129,7 +129,7 @@ returns-3 c =
       s .pre .0,
       held-here (e .before .before),
       sym (counts (e .before)) ∙ not-false (e .before .counts-right .result) (e .if2 .left),
-      c .axes-right .ensures,
+      c .history-right .ensures,
       kept k,
     )
 
@@ -143,5 +143,5 @@ sound-by-spec =
     counts-right-requires
     returns-2
     kept-groups-requires
-    axes-right-requires
+    history-right-requires
     returns-3)

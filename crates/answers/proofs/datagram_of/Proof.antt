@@ -40,6 +40,9 @@ totals-of-requires c κs = search needs
 total-doubles-requires : tie.Need-total-doubles-requires
 total-doubles-requires c κs = search needs
 
+marks-of-requires : tie.Need-marks-of-requires
+marks-of-requires c κs = search needs
+
 array-copy-out-gyro : tie.Need-array-copy-out-gyro
 array-copy-out-gyro c = search needs
 
@@ -52,10 +55,11 @@ array-copy-out-inclinometer c = search needs
 returns : tie.Need-returns
 unfolding datagramWith
 returns c =
-    let s = c .before .before .before in
+    let m = c .before .before .before in
+    let s = m .before in
     let v = s .before .before in
     let j = v .before .before .before in
-    let start = j .before .before .before .before .before in
+    let start = j .before .before .before .before .before .before .before in
     rw (
       j .before .before .before .flagged-channels .ensures,
       j .before .before .flagged-channels2 .ensures,
@@ -64,6 +68,7 @@ returns c =
       v .group-values .ensures,
       s .before .totals-of .ensures,
       s .total-doubles .ensures,
+      m .marks-of .ensures,
       flagged-three (start .args .fields .statuses) (three start),
     )
 
@@ -81,6 +86,7 @@ datagram-of-spec =
     group-values-requires
     totals-of-requires
     total-doubles-requires
+    marks-of-requires
     array-copy-out-gyro
     array-copy-out-accelerometer
     array-copy-out-inclinometer

@@ -19,18 +19,22 @@ no-totals-requires c κs = search needs
 no-doubles-requires : tie.Need-no-doubles-requires
 no-doubles-requires c κs = search needs
 
+no-marks-requires : tie.Need-no-marks-requires
+no-marks-requires c κs = search needs
+
 returns : tie.Need-returns
 unfolding noDatagram
 returns c =
     rw (
-      c .before .before .before .before .no-fields .ensures,
-      c .before .before .before .all-fit .ensures,
-      c .before .before .no-values .ensures,
-      c .before .no-totals .ensures,
-      c .no-doubles .ensures,
+      c .before .before .before .before .before .no-fields .ensures,
+      c .before .before .before .before .all-fit .ensures,
+      c .before .before .before .no-values .ensures,
+      c .before .before .no-totals .ensures,
+      c .before .no-doubles .ensures,
+      c .no-marks .ensures,
     )
 
 pub no-datagram-spec : {M : Type 1} → statement M
 no-datagram-spec =
     tie.close
-    (tie.spec no-fields-requires all-fit-requires no-values-requires no-totals-requires no-doubles-requires returns)
+    (tie.spec no-fields-requires all-fit-requires no-values-requires no-totals-requires no-doubles-requires no-marks-requires returns)

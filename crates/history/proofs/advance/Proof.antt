@@ -1,11 +1,7 @@
 -- `history::advance` meets its contract. Assumes nothing.
-use Prim.Native.Nat.{_+_}
-use mathlib.Core.Path.{ap}
 use native.Mathlib.Omega.{arith}
 use borrow.Author.Tests.{le-leb, lt-leb}
 use borrow.Author.Needs.{needs}
-use Rattle.gaps.specs.Gaps.{datagrams}
-use Rattle.motion.specs.declared.Axes.{Axes}
 use Rattle.history.specs.History.{historyNext, advanced}
 use Rattle.history.proofs.advance.Statement.{statement}
 use Rattle.history.proofs.advance.Tie as tie
@@ -14,17 +10,43 @@ returns : tie.Need-returns
 unfolding advanced
 returns c = rw (le-leb _ _ (c .if1 .taken))
 
+awaits-first-requires : tie.Need-awaits-first-requires
+awaits-first-requires c κs = search needs
+
 step-requires : tie.Need-step-requires
 step-requires c κs = search needs
 
-add-t10 : tie.Need-add-t10
-add-t10 c = omega (arith, c .before .before .if1 .left)
+array-read-step : tie.Need-array-read-step
+array-read-step c = search needs
+
+array-read-step-2 : tie.Need-array-read-step-2
+array-read-step-2 c = search needs
+
+step-requires-2 : tie.Need-step-requires-2
+step-requires-2 c κs = search needs
+
+add-t24 : tie.Need-add-t24
+add-t24 c = omega (arith, c .before .before .before .before .before .before .if1 .left)
 
 returns-2 : tie.Need-returns-2
 unfolding advanced historyNext
 returns-2 c =
-    let a = c .before .before .before .args in
-    rw (lt-leb _ _ (c .before .before .if1 .left)) (ap (λ (axes : Axes). record { datagrams = datagrams (a .history .datagrams .0 + 1); previous = a .counter; axes = axes }) (c .step .ensures))
+    rw (
+      lt-leb _ _ (c .before .before .before .before .before .before .if1 .left),
+      c .step2 .ensures,
+      c .before .step .ensures,
+      c .before .before .awaits-first .ensures,
+    )
 
 pub advance-spec : {M : Type 1} → statement M
-advance-spec = tie.close (tie.spec returns step-requires add-t10 returns-2)
+advance-spec =
+    tie.close
+    (tie.spec
+    returns
+    awaits-first-requires
+    step-requires
+    array-read-step
+    array-read-step-2
+    step-requires-2
+    add-t24
+    returns-2)

@@ -7,7 +7,9 @@ use borrow.Author.Needs.{needs}
 use lib.ListN.{length}
 use lib.Seq.{sets}
 use Rattle.setup.specs.Setup.{lengthOf}
+use Rattle.setup.specs.Sensor.{sensorOf}
 use Rattle.setup.proofs.Refusals.{accepted-length}
+use Rattle.setup.proofs.Sensors.{sensor-rate}
 use Rattle.wire.specs.Fields.{Contents, contentsOf, fieldsOf}
 use Rattle.wire.proofs.FieldBytes.{sensor-fields}
 use Rattle.gaps.proofs.AcceptedSetup.{accepted-gap}
@@ -30,7 +32,7 @@ few : (s : tie.Start) → s .args .progress .history .datagrams .0 < 2 ^ 30
 few s = few-of (s .args .known .setup) (s .pre .0 .accepted) (s .args .progress .history .datagrams .0) _ (s .pre .0 .few)
 
 short : (s : tie.Start) → length (nextLine (s .args .known .setup) (s .args .progress .history) (s .args .d .now)) ≤ longestLine
-short s = line-short (s .args .known .setup) (s .pre .0 .accepted) (s .args .progress .history) (s .args .d .now) (s .pre .0 .axes) (s .pre .1 .0) (few s)
+short s = line-short (s .args .known .setup) (s .pre .0 .accepted) (s .args .progress .history) (s .args .d .now) (s .pre .0 .kept) (s .pre .1 .0) (few s)
 
 -- what was looked up is the setup's: the contents of the datagram, and which groups keep totals
 inside : (s : tie.Start) → contentsOf (s .args .known .sensor .row) (s .args .d .now) ≡ fieldsOf (s .args .known .setup .identifier) (s .args .d .now)
@@ -58,13 +60,16 @@ moved : (c : tie.After-put-behind-arg) → let s = c .before .before .before .be
 moved c =
     let s = c .before .before .before .before .before .before .before .before .before .before .before .before .before .before .before .before .before in
     let a = s .args in
+    let f = fieldsOf (a .known .setup .identifier) (a .d .now) in
     let stepped :
     c .before .before .before .before .advance .result
-    ≡ advanced (a .known .shown .kept) (a .progress .history) (c .before .before .before .before .before .before .before .before .before .readings .result) (c .before .before .before .before .before .before .before .before .statuses .result) (c .before .before .before .before .before .before .before .counter .result) =
+    ≡ advanced (a .known .sensor .rate) (a .known .shown .kept) (a .progress .history) (c .before .before .before .before .before .before .before .before .before .readings .result) (c .before .before .before .before .before .before .before .before .statuses .result) (c .before .before .before .before .before .before .before .counter .result) =
     c .before .before .before .before .advance .ensures in
     stepped
-    ∙ (λ i. advanced (kept s i) (a .progress .history) (read-readings c i) (read-statuses c i) (read-counter c i))
-    ∙ advanced-next (groupsKept (a .known .setup)) (a .progress .history) _ _ _ (omega (arith, few s))
+    ∙ (λ i. advanced (s .pre .1 .1 i .sensor .rate) (kept s i) (a .progress .history) (read-readings c i) (read-statuses c i) (read-counter c i))
+    ∙ advanced-next (sensorOf (a .known .setup) .rate) (groupsKept (a .known .setup)) (a .progress .history) _ _ _ (omega (arith, few s))
+    ∙ ap (λ (n : ℕ). historyNext n (groupsKept (a .known .setup)) (awaitsFirst (a .progress .history)) (a .progress .history) (f .readings) (f .statuses) (f .counter))
+    (sensor-rate (a .known .setup) (s .pre .0 .accepted))
 
 ordinal-is : (c : tie.After-put-behind-arg) → c .before .before .before .before .advance .result .datagrams .0 ≡ suc (c .before .before .before .before .before .before .before .before .before .before .before .before .before .before .before .before .before .args .progress .history .datagrams .0)
 unfolding historyNext
@@ -128,7 +133,7 @@ put-behind-requires c κs =
     let u = a .known .setup in
     let R = s .pre .0 in
     let long : length (a .d .now) ≡ lengthOf u = datagram-length u (a .d .now) (s .pre .1 .0) in (
-      (λ i. outside (ordinal-is c i) (read-readings c i) (totals-are c i)) ∙ line-inside u (R .accepted) (a .progress .history) (a .d .now) (R .axes) (s .pre .1 .0) (few s),
+      (λ i. outside (ordinal-is c i) (read-readings c i) (totals-are c i)) ∙ line-inside u (R .accepted) (a .progress .history) (a .d .now) (R .kept) (s .pre .1 .0) (few s),
       omega (arith, ap length (lined c), short s, R .roomy, long, accepted-length u (R .accepted) .0),
     )
 

@@ -41,7 +41,7 @@ slice-aggregate-session-behind c = search needs
 
 session-behind-requires : tie.Need-session-behind-requires
 session-behind-requires c κs =
-    let s = c .before .before .before .before .before .before .before .before .before .before .before .before .before in
+    let s = c .before .before .before .before .before .before .before .before .before .before .before .before in
     (s .pre .0, s .pre .1, omega arith)
 
 -- a datagram's answer, of the session and the datagram in it
@@ -55,28 +55,28 @@ returns : tie.Need-returns
 unfolding replyAfter historyAfter tell
 returns c =
     let d = c .before .before in
-    let h = d .before .before in
+    let h = d .before in
     let k = h .before in
     let g = k .before in
     let f = g .before .before in
-    let s = c .before .before .before .before .before .before .before .before .before .before .before .before .before .before in
+    let s = c .before .before .before .before .before .before .before .before .before .before .before .before .before in
     let a = s .args in
     let reply = replyAfter (a .session) (a .taken) (finds (a .passed) (a .d .now) []) in
     let fields = f .fields-of .result in
     let gap : g .gap-before .result ≡ gapNext (a .sensor .rate) (a .session .history) (fields .counter) = g .gap-before .ensures in
     let stepped :
-    h .advance .result ≡ advanced (k .kept-groups .result) (a .session .history) (f .before .readings .result) (fields .statuses) (fields .counter) =
+    h .advance .result ≡ advanced (a .sensor .rate) (k .kept-groups .result) (a .session .history) (f .before .readings .result) (fields .statuses) (fields .counter) =
     h .advance .ensures in
     let made :
     d .datagram-of .result
-    ≡ datagramWith (a .sensor) (g .gap-before .result) (contentsWith (f .before .readings .result) fields) (h .advance .result .axes) =
+    ≡ datagramWith (a .sensor) (g .gap-before .result) (contentsWith (f .before .readings .result) fields) (h .advance .result) =
     d .datagram-of .ensures in
     let moved :
     h .advance .result ≡ historyAfter (sensorOf (a .session .setup)) (awaitsFirst (a .session .history)) (a .session .history) (a .d .now) =
     rw (
       ← s .pre .2,
       stepped,
-      advanced-next _ (a .session .history) _ _ _ (s .pre .0 .datagrams),
+      advanced-next (a .sensor .rate) _ (a .session .history) _ _ _ (s .pre .0 .datagrams),
       k .kept-groups .ensures,
       f .fields-of .ensures,
       f .before .readings .ensures,

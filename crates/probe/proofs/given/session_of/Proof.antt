@@ -10,20 +10,11 @@ setup-of-requires c κs = search needs
 held-of-requires : tie.Need-held-of-requires
 held-of-requires c κs = search needs
 
-group-axes-at-requires : tie.Need-group-axes-at-requires
-group-axes-at-requires c κs = search needs
-
-group-axes-at-requires-2 : tie.Need-group-axes-at-requires-2
-group-axes-at-requires-2 c κs = search needs
-
-group-axes-at-requires-3 : tie.Need-group-axes-at-requires-3
-group-axes-at-requires-3 c κs = search needs
+history-of-requires : tie.Need-history-of-requires
+history-of-requires c κs = search needs
 
 u64-at-requires : tie.Need-u64-at-requires
 u64-at-requires c κs = search needs
-
-byte-or-zero-requires : tie.Need-byte-or-zero-requires
-byte-or-zero-requires c κs = search needs
 
 u64-at-requires-2 : tie.Need-u64-at-requires-2
 u64-at-requires-2 c κs = search needs
@@ -31,12 +22,17 @@ u64-at-requires-2 c κs = search needs
 u64-at-requires-3 : tie.Need-u64-at-requires-3
 u64-at-requires-3 c κs = search needs
 
-u64-at-requires-4 : tie.Need-u64-at-requires-4
-u64-at-requires-4 c κs = search needs
-
 returns : tie.Need-returns
 unfolding sessionIn
-returns c = rw (c .before .before .before .before .before .before .before .before .before .setup-of .ensures, c .before .before .before .before .before .before .before .before .held-of .ensures, c .before .before .before .before .before .before .before .group-axes-at .ensures, c .before .before .before .before .before .before .group-axes-at2 .ensures, c .before .before .before .before .before .group-axes-at3 .ensures, c .before .before .before .before .u64-at .ensures, c .before .before .before .byte-or-zero .ensures, c .before .before .u64-at2 .ensures, c .before .u64-at3 .ensures, c .u64-at4 .ensures)
+returns c =
+    rw (
+      c .before .before .before .before .before .setup-of .ensures,
+      c .before .before .before .before .held-of .ensures,
+      c .before .before .before .history-of .ensures,
+      c .before .before .u64-at .ensures,
+      c .before .u64-at2 .ensures,
+      c .u64-at3 .ensures,
+    )
 
 pub session-of-spec : {M : Type 1} → statement M
 session-of-spec =
@@ -44,12 +40,8 @@ session-of-spec =
     (tie.spec
     setup-of-requires
     held-of-requires
-    group-axes-at-requires
-    group-axes-at-requires-2
-    group-axes-at-requires-3
+    history-of-requires
     u64-at-requires
-    byte-or-zero-requires
     u64-at-requires-2
     u64-at-requires-3
-    u64-at-requires-4
     returns)
