@@ -10,13 +10,13 @@ use Rattle.integers.proofs.Booleans.{or-true, or-split}
 use Rattle.setup.proofs.Refusals.{each}
 use Rattle.gaps.specs.Gaps.{samples, elapsed}
 use Rattle.gaps.specs.declared.Samples.{Samples}
-use Rattle.motion.specs.Status.{fit}
+use Rattle.motion.specs.Status.{fit, unfit}
 use Rattle.motion.specs.Totals.{axisIn}
 use Rattle.motion.specs.declared.GroupAxes.{GroupAxes}
 use Rattle.doubt.specs.declared.AxisDoubt.{AxisDoubt}
 use Rattle.doubt.specs.declared.GyroDoubt.{GyroDoubt}
 use Rattle.doubt.specs.DoubtRules.{DoubtRules}
-use Rattle.doubt.specs.Doubt.{added, greatestSum, sumWith, marks, noDoubt, fitDoubt, unfitDoubt, doubtStep, keptDoubt}
+use Rattle.doubt.specs.Doubt.{added, greatestSum, sumWith, mostSamples, marks, noDoubt, fitDoubt, unfitDoubt, doubtStep, keptDoubt}
 use Rattle.doubt.specs.Doubt.{noGyroDoubt, doubtAt, gyroStep, marksOf, markAt}
 
 -- ---- what a datagram adds
@@ -51,30 +51,30 @@ stop-above n = (λ h. omega arith, λ h. omega arith)
 -- a sum above 16 marks, at any rate; so does external trigger, with any sum; and nothing else
 pub far-marks : (rate : ℕ) (s : Samples) → 16 < s .0 → marks rate s ≡ true
 unfolding marks
-far-marks rate s h = rw (lt-ltb 16 (s .0) h)
+far-marks rate s h = rw (lt-ltb mostSamples (s .0) (omega arith))
 
 pub trigger-marks : (s : Samples) → marks 0 s ≡ true
 unfolding marks
-trigger-marks s = or-true (ltb 16 (s .0)) refl
+trigger-marks s = or-true (ltb mostSamples (s .0)) refl
 
 -- else the sum is at most 16 and the rate another
 pub near-unmarked : (rate : ℕ) (s : Samples) → marks rate s ≡ false → (s .0 ≤ 16) × (rate ≡ 0 → ⊥)
 unfolding marks
 near-unmarked rate s e =
-    let p = or-split (ltb 16 (s .0)) (eqb rate 0) e in
-    (ltb-false 16 (s .0) (p .0), eqb-false rate 0 (p .1))
+    let p = or-split (ltb mostSamples (s .0)) (eqb rate 0) e in
+    (omega (arith, ltb-false mostSamples (s .0) (p .0)), eqb-false rate 0 (p .1))
 
 pub marked-why : (rate : ℕ) (s : Samples) → marks rate s ≡ true → (16 < s .0) ⊎ (rate ≡ 0)
 unfolding marks
-marked-why rate s e = by (ltb 16 (s .0)) refl e
+marked-why rate s e = by (ltb mostSamples (s .0)) refl e
   where
-    by : (b : Bool) → ltb 16 (s .0) ≡ b → (b || eqb rate 0) ≡ true → (16 < s .0) ⊎ (rate ≡ 0)
-    by true p x = inl (ltb-true 16 (s .0) p)
+    by : (b : Bool) → ltb mostSamples (s .0) ≡ b → (b || eqb rate 0) ≡ true → (16 < s .0) ⊎ (rate ≡ 0)
+    by true p x = inl (omega (arith, ltb-true mostSamples (s .0) p))
     by false p x = inr (eqb-true rate 0 x)
 
 pub unmarked-near : (rate : ℕ) (s : Samples) → s .0 ≤ 16 → 0 < rate → marks rate s ≡ false
 unfolding marks
-unmarked-near rate s h k = rw (le-ltb 16 (s .0) h, ne-eqb rate 0 (λ e. omega arith))
+unmarked-near rate s h k = rw (le-ltb mostSamples (s .0) (omega arith), ne-eqb rate 0 (λ e. omega arith))
 
 -- ---- one axis
 
@@ -126,7 +126,7 @@ near-keeps rate a d h k = fit-mark rate a d false (unmarked-near rate (sumWith (
     or-none false = refl
 
 pub doubt-rules : DoubtRules
-unfolding doubtStep fitDoubt unfitDoubt sumWith
+unfolding doubtStep fitDoubt unfitDoubt sumWith gyroStep keptDoubt marks marksOf unfit
 doubt-rules =
     record {
       later-adds = later-adds;
@@ -140,6 +140,8 @@ doubt-rules =
       stays = mark-stays;
       idle = idle-step;
       stop-far = λ n d. (λ h. omega arith, λ h. omega arith);
+      each-axis = refl;
+      each-mark = λ g. refl;
       full-rate = refl;
       sixteen = omega arith;
       seventeen = omega arith;

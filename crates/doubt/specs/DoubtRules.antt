@@ -2,11 +2,14 @@
 use Prim.Native.Nat.{ℕ, _+_, _-_, _*_, _^_, _≤_, _<_, min}
 use mathlib.Core.Bool.{Bool, true, false}
 use mathlib.Core.Path.{_≡_}
-use Rattle.gaps.specs.Gaps.{elapsed}
+use lib.IntN.{pos}
+use Rattle.gaps.specs.Gaps.{samples, elapsed}
 use Rattle.gaps.specs.declared.Samples.{Samples}
-use Rattle.doubt.specs.Doubt.{added, noDoubt, doubtStep}
+use Rattle.motion.specs.declared.Axis.{Axis}
+use Rattle.doubt.specs.Doubt.{added, noDoubt, doubtStep, gyroStep, marksOf}
 use Rattle.doubt.specs.Slipped.{fullRate}
 use Rattle.doubt.specs.declared.AxisDoubt.{AxisDoubt}
+use Rattle.doubt.specs.declared.GyroDoubt.{GyroDoubt}
 
 pub record DoubtRules : Type 0 where
   -- a datagram adds its d, the internal samples since the datagram before; a first one adds none
@@ -28,6 +31,21 @@ pub record DoubtRules : Type 0 where
   pub idle : (rate : ℕ) (fit : Bool) (d : Samples) → doubtStep rate false fit noDoubt d ≡ noDoubt
   -- the stop at 65,535 loses nothing: a sum that stopped is above 16, whatever was added before or is added behind the stop
   pub stop-far : (n d : ℕ) → (16 < n + d → 16 < min (min n 65535 + d) 65535) × (16 < min (min n 65535 + d) 65535 → 16 < n + d)
+  -- a datagram of 1 sample more, at 250 a second, on three axes that have begun; the status byte leaves X unfit: by the names of the fields
+  pub each-axis :
+      let going : Axis = record { begun = true; last = pos 0; total = pos 0 } in
+      gyroStep 250 true (record { x = going; y = going; z = going })
+      (record {
+        x = record { samples = samples 16; marked = false };
+        y = record { samples = samples 16; marked = false };
+        z = record { samples = samples 15; marked = false };
+      }) 0x11 (samples 1)
+      ≡ record {
+        x = record { samples = samples 17; marked = false };
+        y = record { samples = samples 0; marked = true };
+        z = record { samples = samples 0; marked = false };
+      }
+  pub each-mark : (g : GyroDoubt) → marksOf g ≡ record { x = g .x .marked; y = g .y .marked; z = g .z .marked }
   -- a gyro saturates at 480 °/s: with shift 21, in each of 2,000 samples a second, at so many hundredths of an output step
   pub full-rate : 2000 * fullRate ≡ 100 * (480 * 2 ^ 21)
   -- in 16 samples that is less than half the folding range, in 17 it may not be

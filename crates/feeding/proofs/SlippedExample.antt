@@ -19,9 +19,7 @@ use Rattle.integers.proofs.Parts.{parts-apart, natAbs-parts, sub-parts}
 use Rattle.crc.specs.Check.{stim300, shift, shifts, byteStep, register, padding, covered, checkOf, check32}
 use Rattle.setup.specs.Layout.{partsOf, rowAt, partsAt, groupsCarried}
 use Rattle.setup.specs.Sensor.{rateOf, unitOf, sensorOf}
-use Rattle.setup.specs.Setup.{setupRules, rulingOn, lengthOf}
-use Rattle.setup.specs.declared.Setup.{Setup}
-use Rattle.setup.specs.declared.Ruling.the-variants.{Accepted}
+use Rattle.setup.specs.Setup.{lengthOf}
 use Rattle.wire.specs.Fields.{fieldsOfPart, contentsOf, fieldsOf}
 use Rattle.acceptance.specs.Acceptable.{checkRight, endingRight, acceptableIn, acceptable}
 use Rattle.gaps.specs.Gaps.{elapsed}
@@ -45,43 +43,33 @@ use Rattle.feeding.specs.declared.Datagram.{Datagram}
 use Rattle.feeding.specs.Feed.{datagramWith, historyAfter, tell, consumer, noDatagram}
 use Rattle.feeding.specs.Promises.{streamOf, FedInTurn, answersFor, sightings, Stands, counted}
 use Rattle.feeding.proofs.Demands.{demand2, doubtful-totals}
+use Rattle.feeding.proofs.WorkedExample.{example, accepted-example}
 
--- the gyro alone, integrated, with shift 21
-abbrev example : Setup
-example = record { rate = 250; identifier = 0x90; termination = 0; units = 3 ∷ 0 ∷ 0 ∷ []; shifts = 21 ∷ 0 ∷ 0 ∷ [] }
+-- of the setup of WorkedExample, the gyro alone, integrated, with shift 21: the reading of X, zeros for Y and Z, the status byte, the counter, latency 0, the check
+abbrev datagram : List ℕ → ℕ → ℕ → List ℕ → List ℕ
+datagram x status counter check = 0x90 ∷ (x ++ (0 ∷ 0 ∷ 0 ∷ 0 ∷ 0 ∷ 0 ∷ status ∷ counter ∷ 0 ∷ 0 ∷ check))
 
-accepted-example : rulingOn example ≡ Accepted
-unfolding rulingOn setupRules rowAt partsAt groupsCarried partsOf
-accepted-example = refl
-
--- at the samples 0, 150, 158, 166, 175, 183 and 184; X is unfit at the first, the third and the fifth, whose reading is none of it
+-- at the samples 0, 150, 158, 166, 175, 183 and 184; X is unfit at the first, the third and the fifth, and what these carry is none of its angle
 abbrev first : List ℕ
-first =
-    0x90 ∷ 0x12 ∷ 0x34 ∷ 0x56 ∷ 0x00 ∷ 0x00 ∷ 0x00 ∷ 0x00 ∷ 0x00 ∷ 0x00 ∷ 0x09 ∷ 0x64 ∷ 0x00 ∷ 0x00 ∷ 0x27 ∷ 0x29 ∷ 0xE9 ∷ 0xD2 ∷ []
+first = datagram (0x12 ∷ 0x34 ∷ 0x56 ∷ []) 0x09 100 (0x27 ∷ 0x29 ∷ 0xE9 ∷ 0xD2 ∷ [])
 
 abbrev second : List ℕ
-second =
-    0x90 ∷ 0x7F ∷ 0xFF ∷ 0xF8 ∷ 0x00 ∷ 0x00 ∷ 0x00 ∷ 0x00 ∷ 0x00 ∷ 0x00 ∷ 0x00 ∷ 0xFA ∷ 0x00 ∷ 0x00 ∷ 0x4D ∷ 0xD2 ∷ 0xD4 ∷ 0xBE ∷ []
+second = datagram (0x7F ∷ 0xFF ∷ 0xF8 ∷ []) 0x00 250 (0x4D ∷ 0xD2 ∷ 0xD4 ∷ 0xBE ∷ [])
 
 abbrev third : List ℕ
-third =
-    0x90 ∷ 0x12 ∷ 0x34 ∷ 0x56 ∷ 0x00 ∷ 0x00 ∷ 0x00 ∷ 0x00 ∷ 0x00 ∷ 0x00 ∷ 0x09 ∷ 0x02 ∷ 0x00 ∷ 0x00 ∷ 0x90 ∷ 0x68 ∷ 0xA7 ∷ 0xBA ∷ []
+third = datagram (0x12 ∷ 0x34 ∷ 0x56 ∷ []) 0x09 2 (0x90 ∷ 0x68 ∷ 0xA7 ∷ 0xBA ∷ [])
 
 abbrev fourth : List ℕ
-fourth =
-    0x90 ∷ 0xFA ∷ 0xE1 ∷ 0x3F ∷ 0x00 ∷ 0x00 ∷ 0x00 ∷ 0x00 ∷ 0x00 ∷ 0x00 ∷ 0x00 ∷ 0x0A ∷ 0x00 ∷ 0x00 ∷ 0x5A ∷ 0xEF ∷ 0xE5 ∷ 0x52 ∷ []
+fourth = datagram (0xFA ∷ 0xE1 ∷ 0x3F ∷ []) 0x00 10 (0x5A ∷ 0xEF ∷ 0xE5 ∷ 0x52 ∷ [])
 
 abbrev fifth : List ℕ
-fifth =
-    0x90 ∷ 0x12 ∷ 0x34 ∷ 0x56 ∷ 0x00 ∷ 0x00 ∷ 0x00 ∷ 0x00 ∷ 0x00 ∷ 0x00 ∷ 0x09 ∷ 0x13 ∷ 0x00 ∷ 0x00 ∷ 0x5A ∷ 0xB7 ∷ 0xCE ∷ 0x3B ∷ []
+fifth = datagram (0x12 ∷ 0x34 ∷ 0x56 ∷ []) 0x09 19 (0x5A ∷ 0xB7 ∷ 0xCE ∷ 0x3B ∷ [])
 
 abbrev sixth : List ℕ
-sixth =
-    0x90 ∷ 0x7D ∷ 0x70 ∷ 0x9B ∷ 0x00 ∷ 0x00 ∷ 0x00 ∷ 0x00 ∷ 0x00 ∷ 0x00 ∷ 0x00 ∷ 0x1B ∷ 0x00 ∷ 0x00 ∷ 0xBF ∷ 0x51 ∷ 0xE0 ∷ 0xBF ∷ []
+sixth = datagram (0x7D ∷ 0x70 ∷ 0x9B ∷ []) 0x00 27 (0xBF ∷ 0x51 ∷ 0xE0 ∷ 0xBF ∷ [])
 
 abbrev seventh : List ℕ
-seventh =
-    0x90 ∷ 0x85 ∷ 0x1E ∷ 0xB0 ∷ 0x00 ∷ 0x00 ∷ 0x00 ∷ 0x00 ∷ 0x00 ∷ 0x00 ∷ 0x00 ∷ 0x1C ∷ 0x00 ∷ 0x00 ∷ 0xCF ∷ 0x89 ∷ 0xB3 ∷ 0x7D ∷ []
+seventh = datagram (0x85 ∷ 0x1E ∷ 0xB0 ∷ []) 0x00 28 (0xCF ∷ 0x89 ∷ 0xB3 ∷ 0x7D ∷ [])
 
 abbrev datagrams : List (List ℕ)
 datagrams = first ∷ second ∷ third ∷ fourth ∷ fifth ∷ sixth ∷ seventh ∷ []
