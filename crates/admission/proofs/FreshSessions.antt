@@ -12,7 +12,7 @@ use Rattle.motion.specs.Totals.{groupsKept}
 use Rattle.scan.specs.OneLength.{heldRule}
 use Rattle.session.specs.Session.{freshOf}
 use Rattle.admission.specs.Admission.{allZero, isSound}
-use Rattle.admission.proofs.AxisLaws.{kept-none}
+use Rattle.admission.proofs.KeptLaws.{kept-none}
 use Rattle.admission.proofs.Soundness.{facts-sound, refused-unsound}
 
 pub fresh-sound : (u : Setup) → rulingOn u ≡ Accepted → isSound (freshOf u) ≡ true

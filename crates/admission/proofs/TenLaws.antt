@@ -23,7 +23,8 @@ use Rattle.session.specs.declared.Session.{Session}
 use Rattle.admission.specs.Admission.{allZero, isSound}
 use Rattle.admission.specs.SoundSession.{AxisPasses, DoubtPasses, PassesTen}
 use Rattle.admission.proofs.Soundness.{Facts, sound-facts, facts-sound, held-rule}
-use Rattle.admission.proofs.AxisLaws.{AxisFacts, DoubtFacts, kept-axes, kept-doubts, each-kept}
+use Rattle.admission.proofs.AxisLaws.{AxisFacts}
+use Rattle.admission.proofs.KeptLaws.{DoubtFacts, kept-axes, kept-doubts, each-kept}
 
 -- ---- the rule for held bytes
 

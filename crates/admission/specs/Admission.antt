@@ -92,13 +92,13 @@ axesRight kept first n a =
     groupRight (getD kept 0 false) first n (a .gyro) &&
     (groupRight (getD kept 1 false) first n (a .accelerometer) && groupRight (getD kept 2 false) first n (a .inclinometer))
 
--- of what is kept of a gyro axis beside its total: its sum is at most 65,535, and it is 0 and without a mark, unless the axis is going: it has begun and
--- keeps a total (02, 2.5)
-abbrev pub isUnmarked : AxisDoubt → Bool
-isUnmarked q = eqb (q .samples .0) 0 && not (q .marked)
+-- what is kept of a gyro axis beside its total is as before any fit datagram: the sum 0, and no mark
+abbrev pub isFreshDoubt : AxisDoubt → Bool
+isFreshDoubt q = eqb (q .samples .0) 0 && not (q .marked)
 
+-- its sum is at most 65,535, and unless the axis keeps a total and has begun (going), it is as before any fit datagram (02, 2.5)
 unfoldable pub doubtRight : Bool → AxisDoubt → Bool
-doubtRight going q = leb (q .samples .0) greatestSum && (going || isUnmarked q)
+doubtRight going q = leb (q .samples .0) greatestSum && (going || isFreshDoubt q)
 
 unfoldable pub gyroDoubtRight : Bool → GroupAxes → GyroDoubt → Bool
 gyroDoubtRight kept g q =

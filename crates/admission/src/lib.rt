@@ -168,9 +168,9 @@ fn history_right(kept: [bool; 3], history: History) -> bool
     let gyro = axes.gyro;
     let doubt = history.doubt;
     let first = history::awaits_first(history);
-    let axes_are = axes_right(kept, first, datagrams, axes);
-    let doubt_is = gyro_doubt_right(kept[0], gyro, doubt);
-    axes_are & doubt_is
+    let axes_pass = axes_right(kept, first, datagrams, axes);
+    let doubt_passes = gyro_doubt_right(kept[0], gyro, doubt);
+    axes_pass & doubt_passes
 }
 
 // Whether feeding doesn't turn down by 10 a session whose setup describes this sensor.

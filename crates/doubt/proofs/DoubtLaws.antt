@@ -32,7 +32,7 @@ later-adds previous counter = refl
 -- ---- the sum
 
 -- it is at most 65,535
-pub sum-most : (s d : Samples) → sumWith s d .0 ≤ 65535
+sum-most : (s d : Samples) → sumWith s d .0 ≤ 65535
 unfolding sumWith
 sum-most s d = omega arith
 
@@ -72,7 +72,7 @@ marked-why rate s e = by (ltb mostSamples (s .0)) refl e
     by true p x = inl (omega (arith, ltb-true mostSamples (s .0) p))
     by false p x = inr (eqb-true rate 0 x)
 
-pub unmarked-near : (rate : ℕ) (s : Samples) → s .0 ≤ 16 → 0 < rate → marks rate s ≡ false
+unmarked-near : (rate : ℕ) (s : Samples) → s .0 ≤ 16 → 0 < rate → marks rate s ≡ false
 unfolding marks
 unmarked-near rate s h k = rw (le-ltb mostSamples (s .0) (omega arith), ne-eqb rate 0 (λ e. omega arith))
 
@@ -139,7 +139,8 @@ doubt-rules =
       near-keeps = near-keeps;
       stays = mark-stays;
       idle = idle-step;
-      stop-far = λ n d. (λ h. omega arith, λ h. omega arith);
+      stop-adds = stopped-once;
+      stop-far = stop-above;
       each-axis = refl;
       each-mark = λ g. refl;
       full-rate = refl;

@@ -2,3 +2,4 @@
 pub mod DoubtLaws
 pub mod Sums
 pub mod TrueAngle
+pub mod AnglesMet

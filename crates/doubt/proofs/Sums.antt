@@ -1,16 +1,16 @@
 -- What is kept of an axis after datagrams, from any axis: whether its total is marked is read off the datagrams (02, 2.5). Assumes nothing.
-use Prim.Native.Nat.{ℕ, zero, suc, _+_, _≤_, _<_, min}
-use mathlib.Core.Bool.{Bool, true, false, _&&_, _||_, cond}
+use Prim.Native.Nat.{ℕ, _+_, min}
+use mathlib.Core.Bool.{Bool, true, false, _&&_, _||_}
 use mathlib.Core.List.{List, [], _∷_, _++_}
 use mathlib.Core.Logic.{_⊎_, inl, inr}
-use mathlib.Core.Path.{_≡_, refl, sym, ap, _∙_, subst}
+use mathlib.Core.Path.{_≡_, refl, sym, ap, _∙_}
 use native.Mathlib.Omega.{arith}
 use Rattle.integers.proofs.Booleans.{or-true}
 use Rattle.gaps.specs.Gaps.{samples, elapsed}
 use Rattle.gaps.specs.declared.Samples.{Samples}
 use Rattle.doubt.specs.declared.AxisDoubt.{AxisDoubt}
 use Rattle.doubt.specs.Doubt.{added, greatestSum, sumWith, marks, noDoubt, fitDoubt, unfitDoubt, doubtStep}
-use Rattle.doubt.specs.Slipped.{Counted, samplesOver, AllUnfit, Far, MaySlip}
+use Rattle.doubt.specs.Slipped.{Counted, samplesOver, AllUnfit, Doubtful, MaySlip}
 use Rattle.doubt.proofs.DoubtLaws.{later-adds, stopped-once, stop-above, far-marks, trigger-marks, marked-why, mark-stays, idle-step}
 
 -- what is kept of an axis after datagrams; begun: whether a fit one came before, first: whether the first of them counts as a first one, previous: the
@@ -73,18 +73,18 @@ record Reaches (rate n p : ℕ) (ds : List Counted) : Type 0 where
   parts : ds ≡ between ++ (later ∷ behind)
   unfit-between : AllUnfit between
   fit-later : later .sighting .fit ≡ true
-  far : Far rate (n + samplesOver p (between ++ (later ∷ [])))
+  far : Doubtful rate (n + samplesOver p (between ++ (later ∷ [])))
 
-far-as : (rate : ℕ) {n k : ℕ} → n ≡ k → Far rate n → Far rate k
+far-as : (rate : ℕ) {n k : ℕ} → n ≡ k → Doubtful rate n → Doubtful rate k
 far-as rate e (inl h) = inl (omega arith)
 far-as rate e (inr h) = inr h
 
-marks-far : (rate n : ℕ) → Far rate n → marks rate (samples (min n greatestSum)) ≡ true
+marks-far : (rate n : ℕ) → Doubtful rate n → marks rate (samples (min n greatestSum)) ≡ true
 marks-far rate n (inl h) = far-marks rate (samples (min n greatestSum)) (stop-above n .0 h)
 marks-far rate n (inr e) = rw e (trigger-marks (samples (min n greatestSum)))
 
 reached-marked : (rate : ℕ) (between : List Counted) (later : Counted) (behind : List Counted) (n p : ℕ) (m : Bool)
-    → AllUnfit between → later .sighting .fit ≡ true → Far rate (n + samplesOver p (between ++ (later ∷ [])))
+    → AllUnfit between → later .sighting .fit ≡ true → Doubtful rate (n + samplesOver p (between ++ (later ∷ [])))
     → doubtAfter rate true false p (at n m) (between ++ (later ∷ behind)) .marked ≡ true
 unfolding samplesOver AllUnfit
 reached-marked rate [] later behind n p m a f h =
@@ -108,7 +108,7 @@ after-any rate d ds begun first p a f = (
 slipped-marked :
     (rate : ℕ) (before : List Counted) (earlier : Counted) (between : List Counted) (later : Counted) (behind : List Counted) (begun first : Bool) (p : ℕ) (a : AxisDoubt)
     → earlier .sighting .fit ≡ true → AllUnfit between → later .sighting .fit ≡ true
-    → Far rate (samplesOver (earlier .counter) (between ++ (later ∷ [])))
+    → Doubtful rate (samplesOver (earlier .counter) (between ++ (later ∷ [])))
     → doubtAfter rate begun first p a (before ++ (earlier ∷ (between ++ (later ∷ behind)))) .marked ≡ true
 unfolding doubtAfter
 slipped-marked rate [] earlier between later behind begun first p a f u g h =
@@ -163,7 +163,7 @@ reach-later rate n p d f r =
       far = far-as rate (omega arith) (r .far);
     }
 
-reach-here : (rate n p : ℕ) (d : Counted) (ds : List Counted) → d .sighting .fit ≡ true → Far rate (n + elapsed p (d .counter) .0) → Reaches rate n p (d ∷ ds)
+reach-here : (rate n p : ℕ) (d : Counted) (ds : List Counted) → d .sighting .fit ≡ true → Doubtful rate (n + elapsed p (d .counter) .0) → Reaches rate n p (d ∷ ds)
 unfolding samplesOver AllUnfit
 reach-here rate n p d ds f h =
     record { between = []; later = d; behind = ds; parts = refl; unfit-between = tt; fit-later = f; far = far-as rate (omega arith) h }
@@ -173,7 +173,7 @@ abbrev Why : ℕ → Bool → ℕ → ℕ → List Counted → Type 0
 Why rate m n p ds = (m ≡ true) ⊎ (Reaches rate n p ds ⊎ MaySlip rate ds)
 
 module _ (rate n p : ℕ) (d : Counted) (ds : List Counted) where
-  unstopped : (k : ℕ) → Far rate (min k greatestSum) → Far rate k
+  unstopped : (k : ℕ) → Doubtful rate (min k greatestSum) → Doubtful rate k
   unstopped k (inl h) = inl (stop-above k .1 h)
   unstopped k (inr h) = inr h
 
@@ -221,3 +221,23 @@ pub slipped-marks : (rate : ℕ) (ds : List Counted) (first : Bool) (p : ℕ) �
 slipped-marks rate ds first p s =
     ap (λ (l : List Counted). doubtAfter rate false first p noDoubt l .marked) (s .parts)
     ∙ slipped-marked rate (s .before) (s .earlier) (s .between) (s .later) (s .behind) false first p noDoubt (s .fit-earlier) (s .unfit-between) (s .fit-later) (s .far)
+
+-- ---- the sum that is kept: the d's since the last fit one, stopping at 65,535
+
+unfit-sum : (rate : ℕ) (ds : List Counted) (n p : ℕ) (m : Bool) → AllUnfit ds
+    → doubtAfter rate true false p (at n m) ds .samples .0 ≡ min (n + samplesOver p ds) greatestSum
+unfolding doubtAfter samplesOver AllUnfit
+unfit-sum rate [] n p m u = omega arith
+unfit-sum rate (d ∷ ds) n p m u =
+    ap (λ (x : AxisDoubt). x .samples .0) (after-unfit rate d ds p n m (u .0))
+    ∙ unfit-sum rate ds (n + elapsed p (d .counter) .0) (d .counter) m (u .1)
+    ∙ omega arith
+
+pub kept-sum : (rate : ℕ) (before : List Counted) (last : Counted) (ds : List Counted) (begun first : Bool) (p : ℕ) (a : AxisDoubt)
+    → last .sighting .fit ≡ true → AllUnfit ds
+    → doubtAfter rate begun first p a (before ++ (last ∷ ds)) .samples .0 ≡ min (samplesOver (last .counter) ds) greatestSum
+unfolding doubtAfter
+kept-sum rate [] last ds begun first p a f u =
+    let s = after-any rate last ds begun first p a f in
+    ap (λ (x : AxisDoubt). x .samples .0) (s .1) ∙ unfit-sum rate ds 0 (last .counter) (s .0) u ∙ omega arith
+kept-sum rate (d ∷ before) last ds begun first p a f u = kept-sum rate before last ds _ false (d .counter) _ f u

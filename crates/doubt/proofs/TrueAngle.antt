@@ -1,7 +1,7 @@
 -- The total of a gyro axis that isn't marked stands for the true change since the axis's first fit datagram (02, 2.5): in sums of at most 16 samples
 -- neighbouring true angles are close, and the law of one axis applies (01, Totals). Assumes nothing.
 use Prim.Native.Nat.{ℕ, zero, suc, _+_, _-_, _*_, _%_, _^_, _≤_, _<_, min}
-use mathlib.Core.Bool.{Bool, true, false, _||_, cond}
+use mathlib.Core.Bool.{Bool, true, false, cond}
 use mathlib.Core.List.{List, [], _∷_, map}
 use mathlib.Core.Path.{_≡_, refl, sym, ap, _∙_, subst}
 use native.Mathlib.Nat.{mul-le-mul-right, add-mul, suc-mul}
@@ -20,7 +20,7 @@ use Rattle.motion.specs.declared.Axis.{Axis}
 use Rattle.motion.proofs.TrueChange.{total-at-each}
 use Rattle.doubt.specs.declared.AxisDoubt.{AxisDoubt}
 use Rattle.doubt.specs.Doubt.{greatestSum, marks, noDoubt}
-use Rattle.doubt.specs.Slipped.{Counted, none, fullRate, Turn, TrueAngles, SampledTurn, SampledAngles, FirstFit}
+use Rattle.doubt.specs.Slipped.{Counted, none, greatestTurn, Turn, TrueAngles, SampledTurn, SampledAngles, FirstFit}
 use Rattle.doubt.proofs.DoubtLaws.{near-unmarked}
 use Rattle.doubt.proofs.Sums.{doubtAfter, at, after-fit, after-first, after-unfit, after-idle, stays-marked}
 
@@ -39,12 +39,12 @@ TurnsFrom fine p w (d ∷ ds) [] = ⊥
 TurnsFrom fine p w (d ∷ ds) (t ∷ ts) = Turn fine p (d .counter) w t × TurnsFrom fine (d .counter) t ds ts
 
 -- a change over n samples and one over k more
-further : (fine n k : ℕ) (t w u : ℤ) → 100 * natAbs (w -ℤ t) ≤ n * (fullRate * fine) → 100 * natAbs (u -ℤ w) ≤ k * (fullRate * fine)
-    → 100 * natAbs (u -ℤ t) ≤ (n + k) * (fullRate * fine)
-further fine n k t w u h g = omega (arith, abs-through t w u, add-mul n k (fullRate * fine))
+further : (fine n k : ℕ) (t w u : ℤ) → 100 * natAbs (w -ℤ t) ≤ n * (greatestTurn * fine) → 100 * natAbs (u -ℤ w) ≤ k * (greatestTurn * fine)
+    → 100 * natAbs (u -ℤ t) ≤ (n + k) * (greatestTurn * fine)
+further fine n k t w u h g = omega (arith, abs-through t w u, add-mul n k (greatestTurn * fine))
 
 -- in at most 16 samples
-close-in : (fine n : ℕ) (t u : ℤ) → 0 < fine → n ≤ 16 → 100 * natAbs (u -ℤ t) ≤ n * (fullRate * fine) → natAbs (u -ℤ t) < (2 ^ 23 - 1) * fine
+close-in : (fine n : ℕ) (t u : ℤ) → 0 < fine → n ≤ 16 → 100 * natAbs (u -ℤ t) ≤ n * (greatestTurn * fine) → natAbs (u -ℤ t) < (2 ^ 23 - 1) * fine
 close-in fine n t u h k g = omega (arith, mul-le-mul-right (50331648 * fine) k)
 
 module _ (rate fine : ℕ) (h : 0 < fine) where
@@ -68,21 +68,21 @@ module _ (rate fine : ℕ) (h : 0 < fine) where
       by k false q x = (omega (arith, near-unmarked rate (samples (min k greatestSum)) q .0), rw q at x)
 
   close-from :
-      (ds : List Counted) (ts : List ℤ) (n p : ℕ) (t w : ℤ) → TurnsFrom fine p w ds ts → 100 * natAbs (w -ℤ t) ≤ n * (fullRate * fine)
+      (ds : List Counted) (ts : List ℤ) (n p : ℕ) (t w : ℤ) → TurnsFrom fine p w ds ts → 100 * natAbs (w -ℤ t) ≤ n * (greatestTurn * fine)
       → marked-after n p false ds ≡ false → CloseFrom fine t (fitAngles ds ts)
   unfolding TurnsFrom fitAngles CloseFrom marked-after
   close-from [] ts n p t w T g e = tt
   close-from (d ∷ ds) [] n p t w T g e = absurd T
   close-from (d ∷ ds) (u ∷ us) n p t w T g e = by (d .sighting .fit) refl (λ n′ t′ g′ e′. close-from ds us n′ (d .counter) t′ u (T .1) g′ e′)
     where
-      turned : 100 * natAbs (u -ℤ t) ≤ (n + elapsed p (d .counter) .0) * (fullRate * fine)
+      turned : 100 * natAbs (u -ℤ t) ≤ (n + elapsed p (d .counter) .0) * (greatestTurn * fine)
       turned =
           let same = elapsed-by p (d .counter) (T .0 .samples) (T .0 .some) (T .0 .few) (T .0 .counted) in
           further fine n (elapsed p (d .counter) .0) t w u g
-          (subst (λ (m : ℕ). 100 * natAbs (u -ℤ w) ≤ m * (fullRate * fine)) (sym same) (T .0 .bounded))
+          (subst (λ (m : ℕ). 100 * natAbs (u -ℤ w) ≤ m * (greatestTurn * fine)) (sym same) (T .0 .bounded))
 
       by : (b : Bool) → d .sighting .fit ≡ b
-          → ((n′ : ℕ) (t′ : ℤ) → 100 * natAbs (u -ℤ t′) ≤ n′ * (fullRate * fine) → marked-after n′ (d .counter) false ds ≡ false → CloseFrom fine t′ (fitAngles ds us))
+          → ((n′ : ℕ) (t′ : ℤ) → 100 * natAbs (u -ℤ t′) ≤ n′ * (greatestTurn * fine) → marked-after n′ (d .counter) false ds ≡ false → CloseFrom fine t′ (fitAngles ds us))
           → CloseFrom fine t (cond (d .sighting .fit) (u ∷ fitAngles ds us) (fitAngles ds us))
       by true f r =
           let q = few-there d ds n p f e in
@@ -198,9 +198,8 @@ close-all rate fine h first p [] ts A e = tt
 close-all rate fine h first p (d ∷ ds) [] A e = tt
 close-all rate fine h first p (d ∷ ds) (t ∷ ts) A e = close-begins rate fine h d ds t ts first p (turns-of fine d ds t ts A) e
 
--- ---- the datagrams up to a place
-
-up-to : (fine n : ℕ) (ds : List Counted) (ts : List ℤ) → TrueAngles fine ds ts → TrueAngles fine (take n ds) (take n ts)
+-- what is so of all datagrams is so of those up to a place
+pub up-to : (fine n : ℕ) (ds : List Counted) (ts : List ℤ) → TrueAngles fine ds ts → TrueAngles fine (take n ds) (take n ts)
 up-to fine n ds ts A =
     record {
       one-each = omega (arith, length-take n ts, length-take n ds, A .one-each);
@@ -218,8 +217,8 @@ up-to fine n ds ts A =
                 ∙ T .counted
                 ∙ ap (λ (d : Counted). d .counter) (sym (getD-take n ds (suc i) none m));
             bounded =
-                subst (λ (z : ℤ). 100 * natAbs (z -ℤ getD (take n ts) i (pos 0)) ≤ T .samples * (fullRate * fine)) (sym (getD-take n ts (suc i) (pos 0) m))
-                (subst (λ (z : ℤ). 100 * natAbs (getD ts (suc i) (pos 0) -ℤ z) ≤ T .samples * (fullRate * fine)) (sym (getD-take n ts i (pos 0) k)) (T .bounded));
+                subst (λ (z : ℤ). 100 * natAbs (z -ℤ getD (take n ts) i (pos 0)) ≤ T .samples * (greatestTurn * fine)) (sym (getD-take n ts (suc i) (pos 0) m))
+                (subst (λ (z : ℤ). 100 * natAbs (getD ts (suc i) (pos 0) -ℤ z) ≤ T .samples * (greatestTurn * fine)) (sym (getD-take n ts i (pos 0) k)) (T .bounded));
           };
       carried =
           λ i l f.
@@ -235,27 +234,25 @@ up-to fine n ds ts A =
 abbrev sightings : List Counted → List Sighting
 sightings ds = map (λ (d : Counted). d .sighting) ds
 
--- At a fit place at which the total isn't marked, the axis stands for the change from the true angle of its first fit datagram to that of this one
+-- At a fit place at which the total isn't marked, the axis stands for the change from the true angle of its first fit datagram to that of this one; the
+-- angles are those of the datagrams up to the place
 pub unmarked-stands :
-    (rate fine : ℕ) → 0 < fine → (ds : List Counted) (ts : List ℤ) → TrueAngles fine ds ts → (first : Bool) (p : ℕ)
-    → (i : ℕ) → i < length ds → getD ds i none .sighting .fit ≡ true → doubtAfter rate false first p noDoubt (take (suc i) ds) .marked ≡ false
+    (rate fine : ℕ) → 0 < fine → (ds : List Counted) (i : ℕ) → i < length ds → (ts : List ℤ) → TrueAngles fine (take (suc i) ds) ts → (first : Bool) (p : ℕ)
+    → getD ds i none .sighting .fit ≡ true → doubtAfter rate false first p noDoubt (take (suc i) ds) .marked ≡ false
     → (k : ℕ) × (k ≤ i) × FirstFit ds k × Stands fine (getD ts k (pos 0)) (getD ts i (pos 0)) (after noAxis (take (suc i) (sightings ds)))
-unmarked-stands rate fine h ds ts A first p i l f e =
+unmarked-stands rate fine h ds i l ts A first p f e =
     let n = suc i in
     let es = take n ds in
-    let us = take n ts in
-    let B = up-to fine n ds ts A in
     let long = length-take n ds in
-    let at-i = getD-take n ds i none (omega arith) in
-    let g = ap (λ (d : Counted). d .sighting .fit) at-i ∙ f in
+    let g = ap (λ (d : Counted). d .sighting .fit) (getD-take n ds i none (omega arith)) ∙ f in
     let there : i < length es = omega arith in
-    let q = first-angle es us (B .one-each) i there g in
+    let q = first-angle es ts (A .one-each) i there g in
     let ss = sightings es in
     let same : ss ≡ take n (sightings ds) = sym (take-map (λ (d : Counted). d .sighting) ds n) in
     let seen : getD ss i totals.none .fit ≡ true =
     ap (λ (s : Sighting). s .fit) (List·getD-map (λ (d : Counted). d .sighting) es i none) ∙ g in
     let s =
-    total-at-each fine h noAxis refl ss (fitAngles es us) (carried-fit fine es us (B .one-each) (B .carried)) (close-all rate fine h first p es us B e) i
+    total-at-each fine h noAxis refl ss (fitAngles es ts) (carried-fit fine es ts (A .one-each) (A .carried)) (close-all rate fine h first p es ts A e) i
     (omega (arith, length-map es (λ (d : Counted). d .sighting))) seen in (
       q .0,
       q .1,
@@ -267,24 +264,23 @@ unmarked-stands rate fine h ds ts A first p i l f e =
       },
       subst (λ (a : Axis). Stands fine (getD ts (q .0) (pos 0)) (getD ts i (pos 0)) a)
           (ap (after noAxis) (ap (take n) same ∙ take-take n n (sightings ds) (omega arith)))
-          (subst (λ (z : ℤ). Stands fine z (getD ts i (pos 0)) (after noAxis (take n ss))) (q .3 ∙ getD-take n ts (q .0) (pos 0) (omega (arith, q .1)))
-          (subst (λ (z : ℤ). Stands fine (getD (fitAngles es us) 0 (pos 0)) z (after noAxis (take n ss)))
-          (angle-at es us (B .one-each) i there g ∙ getD-take n ts i (pos 0) (omega arith)) s)),
+          (subst (λ (z : ℤ). Stands fine z (getD ts i (pos 0)) (after noAxis (take n ss))) (q .3)
+          (subst (λ (z : ℤ). Stands fine (getD (fitAngles es ts) 0 (pos 0)) z (after noAxis (take n ss))) (angle-at es ts (A .one-each) i there g) s)),
     )
 
 -- ---- with a true angle at each internal sample
 
 module _ (fine : ℕ) (angle : ℕ → ℤ) where
   over-samples :
-      (n p q : ℕ) → q ≡ p + n → ((m : ℕ) → p ≤ m → m < q → 100 * natAbs (angle (suc m) -ℤ angle m) ≤ fullRate * fine)
-      → 100 * natAbs (angle q -ℤ angle p) ≤ n * (fullRate * fine)
+      (n p q : ℕ) → q ≡ p + n → ((m : ℕ) → p ≤ m → m < q → 100 * natAbs (angle (suc m) -ℤ angle m) ≤ greatestTurn * fine)
+      → 100 * natAbs (angle q -ℤ angle p) ≤ n * (greatestTurn * fine)
   over-samples zero p q e b =
       let same : q ≡ p = omega arith in
       omega (arith, ap (λ (k : ℕ). natAbs (angle k -ℤ angle p)) same, ap natAbs (sub-self (angle p)))
   over-samples (suc n) p zero e b = absurd (omega arith)
   over-samples (suc n) p (suc q) e b =
       let r = over-samples n p q (omega arith) (λ m h k. b m h (omega arith)) in
-      omega (arith, abs-through (angle p) (angle q) (angle (suc q)), r, b q (omega arith) (omega arith), suc-mul n (fullRate * fine))
+      omega (arith, abs-through (angle p) (angle q) (angle (suc q)), r, b q (omega arith) (omega arith), suc-mul n (greatestTurn * fine))
 
   turn-of : (previous counter p q : ℕ) → SampledTurn fine previous counter angle p q → Turn fine previous counter (angle p) (angle q)
   turn-of previous counter p q T =

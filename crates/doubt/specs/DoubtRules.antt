@@ -6,8 +6,8 @@ use lib.IntN.{pos}
 use Rattle.gaps.specs.Gaps.{samples, elapsed}
 use Rattle.gaps.specs.declared.Samples.{Samples}
 use Rattle.motion.specs.declared.Axis.{Axis}
-use Rattle.doubt.specs.Doubt.{added, noDoubt, doubtStep, gyroStep, marksOf}
-use Rattle.doubt.specs.Slipped.{fullRate}
+use Rattle.doubt.specs.Doubt.{added, sumWith, noDoubt, doubtStep, gyroStep, marksOf}
+use Rattle.doubt.specs.Slipped.{greatestTurn}
 use Rattle.doubt.specs.declared.AxisDoubt.{AxisDoubt}
 use Rattle.doubt.specs.declared.GyroDoubt.{GyroDoubt}
 
@@ -29,25 +29,26 @@ pub record DoubtRules : Type 0 where
   pub stays : (rate : ℕ) (begun fit : Bool) (a : AxisDoubt) (d : Samples) → a .marked ≡ true → doubtStep rate begun fit a d .marked ≡ true
   -- before the first fit one nothing is kept, and that one marks nothing
   pub idle : (rate : ℕ) (fit : Bool) (d : Samples) → doubtStep rate false fit noDoubt d ≡ noDoubt
-  -- the stop at 65,535 loses nothing: a sum that stopped is above 16, whatever was added before or is added behind the stop
-  pub stop-far : (n d : ℕ) → (16 < n + d → 16 < min (min n 65535 + d) 65535) × (16 < min (min n 65535 + d) 65535 → 16 < n + d)
-  -- a datagram of 1 sample more, at 250 a second, on three axes that have begun; the status byte leaves X unfit: by the names of the fields
+  -- the stop at 65,535 loses nothing: what is added to a sum that stopped gives the stopped sum of all, and that is above 16 exactly if the sum of all is
+  pub stop-adds : (n d : ℕ) → sumWith (samples (min n 65535)) (samples d) ≡ samples (min (n + d) 65535)
+  pub stop-far : (n : ℕ) → (16 < n → 16 < min n 65535) × (16 < min n 65535 → 16 < n)
+  -- in numbers, by the names of the fields: a datagram that adds 1 sample, with overload of X and Y, at 250 datagrams a second
   pub each-axis :
       let going : Axis = record { begun = true; last = pos 0; total = pos 0 } in
       gyroStep 250 true (record { x = going; y = going; z = going })
       (record {
-        x = record { samples = samples 16; marked = false };
-        y = record { samples = samples 16; marked = false };
-        z = record { samples = samples 15; marked = false };
-      }) 0x11 (samples 1)
+        x = record { samples = samples 3; marked = false };
+        y = record { samples = samples 15; marked = false };
+        z = record { samples = samples 16; marked = false };
+      }) 0x13 (samples 1)
       ≡ record {
-        x = record { samples = samples 17; marked = false };
-        y = record { samples = samples 0; marked = true };
-        z = record { samples = samples 0; marked = false };
+        x = record { samples = samples 4; marked = false };
+        y = record { samples = samples 16; marked = false };
+        z = record { samples = samples 0; marked = true };
       }
   pub each-mark : (g : GyroDoubt) → marksOf g ≡ record { x = g .x .marked; y = g .y .marked; z = g .z .marked }
   -- a gyro saturates at 480 °/s: with shift 21, in each of 2,000 samples a second, at so many hundredths of an output step
-  pub full-rate : 2000 * fullRate ≡ 100 * (480 * 2 ^ 21)
+  pub full-rate : 2000 * greatestTurn ≡ 100 * (480 * 2 ^ 21)
   -- in 16 samples that is less than half the folding range, in 17 it may not be
-  pub sixteen : 16 * fullRate < 100 * (2 ^ 23 - 1)
-  pub seventeen : 100 * 2 ^ 23 < 17 * fullRate
+  pub sixteen : 16 * greatestTurn < 100 * (2 ^ 23 - 1)
+  pub seventeen : 100 * 2 ^ 23 < 17 * greatestTurn

@@ -31,9 +31,9 @@ unfoldable pub AllUnfit : List Counted → Type 0
 AllUnfit [] = Unit {0}
 AllUnfit (d ∷ ds) = (d .sighting .fit ≡ false) × AllUnfit ds
 
--- so many samples lie from a fit datagram to the next: more than 16, or the rate is 0
-abbrev pub Far : ℕ → ℕ → Type 0
-Far rate n = (16 < n) ⊎ (rate ≡ 0)
+-- the total is doubtful behind so many samples from a fit datagram to the next: more than 16, or the rate is 0
+abbrev pub Doubtful : ℕ → ℕ → Type 0
+Doubtful rate n = (16 < n) ⊎ (rate ≡ 0)
 
 -- among these datagrams stand two fit ones, none fit between them, and the d's of those behind the earlier, up to and including the later, add up to
 -- more than 16, or the rate is 0
@@ -47,23 +47,23 @@ pub record MaySlip (rate : ℕ) (ds : List Counted) : Type 0 where
   pub fit-earlier : earlier .sighting .fit ≡ true
   pub unfit-between : AllUnfit between
   pub fit-later : later .sighting .fit ≡ true
-  pub far : Far rate (samplesOver (earlier .counter) (between ++ (later ∷ [])))
+  pub far : Doubtful rate (samplesOver (earlier .counter) (between ++ (later ∷ [])))
 
 -- ---- the true angles
 
--- 100 × the change of the true angle in one internal sample is at most so many fine units for each fine unit of an output step: 480 °/s with shift 21
--- (law full-rate)
-abbrev pub fullRate : ℕ
-fullRate = 50331648
+-- 100 × the change of the true angle in one internal sample is at most this × fine, where fine is the paper's D, the fine units in an output step: 480 °/s
+-- with shift 21 (DoubtRules.full-rate)
+abbrev pub greatestTurn : ℕ
+greatestTurn = 50331648
 
 -- from a datagram with the counter `previous` and the true angle t to the next, with `counter` and u: n samples, 1 to 255, by which the counters differ
--- modulo 256; fine: the fine units in an output step
+-- modulo 256
 pub record Turn (fine previous counter : ℕ) (t u : ℤ) : Type 0 where
   pub samples : ℕ
   pub some : 1 ≤ samples
   pub few : samples ≤ 255
   pub counted : (previous + samples) % 256 ≡ counter
-  pub bounded : 100 * natAbs (u -ℤ t) ≤ samples * (fullRate * fine)
+  pub bounded : 100 * natAbs (u -ℤ t) ≤ samples * (greatestTurn * fine)
 
 -- true angles, one for each datagram: from each to the next as above, and each fit datagram carries its angle over fine rounded down and folded
 pub record TrueAngles (fine : ℕ) (ds : List Counted) (angles : List ℤ) : Type 0 where
@@ -81,7 +81,7 @@ pub record SampledTurn (fine previous counter : ℕ) (angle : ℕ → ℤ) (p q 
   pub some : p < q
   pub few : q ≤ p + 255
   pub counted : (previous + (q - p)) % 256 ≡ counter
-  pub bounded : (m : ℕ) → p ≤ m → m < q → 100 * natAbs (angle (suc m) -ℤ angle m) ≤ fullRate * fine
+  pub bounded : (m : ℕ) → p ≤ m → m < q → 100 * natAbs (angle (suc m) -ℤ angle m) ≤ greatestTurn * fine
 
 -- at: the sample of each datagram
 pub record SampledAngles (fine : ℕ) (ds : List Counted) (angle : ℕ → ℤ) (at : List ℕ) : Type 0 where

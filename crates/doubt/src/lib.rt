@@ -100,32 +100,32 @@ fn marks(rate: Rate, sum: Samples) -> bool
 fn fit_doubt(rate: Rate, begun: bool, doubt: AxisDoubt, d: Samples) -> AxisDoubt
     ensures { λ r. ⌜ r ≡ fitDoubt (hertz rate) begun doubt d ⌝ }
 {
-    let kept = doubt.samples;
+    let before = doubt.samples;
     let marked = doubt.marked;
-    let sum = sum_with(kept, d);
-    let anew = Samples(0);
+    let sum = sum_with(before, d);
+    let behind = Samples(0);
     AxisDoubt {
-        samples: anew,
+        samples: behind,
         marked: marked | (begun & marks(rate, sum)),
     }
 }
 
-// An unfit one.
+// An unfit datagram on an axis: it adds its samples once the axis has begun.
 fn unfit_doubt(begun: bool, doubt: AxisDoubt, d: Samples) -> AxisDoubt
     ensures { λ r. ⌜ r ≡ unfitDoubt begun doubt d ⌝ }
 {
     if !begun {
         return doubt;
     }
-    let kept = doubt.samples;
+    let before = doubt.samples;
     let marked = doubt.marked;
     AxisDoubt {
-        samples: sum_with(kept, d),
+        samples: sum_with(before, d),
         marked: marked,
     }
 }
 
-// One datagram on one axis.
+// One datagram on one axis, by whether it leaves the axis fit.
 fn axis_step(rate: Rate, begun: bool, fit: bool, doubt: AxisDoubt, d: Samples) -> AxisDoubt
     ensures { λ r. ⌜ r ≡ doubtStep (hertz rate) begun fit doubt d ⌝ }
 {

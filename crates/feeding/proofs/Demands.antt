@@ -1,9 +1,9 @@
 -- Demands 2 and 3 of every setup that is not refused.
 -- Assumes nothing.
-use Prim.Native.Nat.{ℕ, suc, _+_, _-_, _*_, _^_, _≤_, _<_}
+use Prim.Native.Nat.{ℕ, suc, _+_, _-_, _*_, _^_, _≤_, _<_, min}
 use mathlib.Core.Path.{_≡_, refl, sym, ap, _∙_, subst}
 use mathlib.Core.Bool.{Bool, true, false, cond}
-use mathlib.Core.List.{List, [], map}
+use mathlib.Core.List.{List, [], _∷_, _++_, map}
 use native.Mathlib.Omega.{arith}
 use lib.IntN.{ℤ, pos, natAbs, _-ℤ_, _*ℤ_}
 use lib.Dec.{eqb}
@@ -23,10 +23,11 @@ use Rattle.motion.specs.declared.Total.{Total}
 use Rattle.motion.proofs.AcceptedSetup.{integrated-kept, other-not-kept}
 use Rattle.motion.proofs.Bounds.{keptAfter}
 use Rattle.motion.proofs.TrueChange.{kept-at-each, carried-at, place-of}
-use Rattle.doubt.specs.Doubt.{noDoubt, markAt}
-use Rattle.doubt.specs.Slipped.{Counted, TrueAngles, SampledAngles, FirstFit}
+use Rattle.doubt.specs.Doubt.{noDoubt, doubtAt, markAt}
+use Rattle.doubt.specs.declared.AxisDoubt.{AxisDoubt}
+use Rattle.doubt.specs.Slipped.{Counted, samplesOver, AllUnfit, TrueAngles, SampledAngles, FirstFit}
 use Rattle.doubt.specs.Slipped as slipped
-use Rattle.doubt.proofs.Sums.{doubtAfter, marked-slipped, slipped-marks}
+use Rattle.doubt.proofs.Sums.{doubtAfter, marked-slipped, slipped-marks, kept-sum}
 use Rattle.doubt.proofs.TrueAngle.{unmarked-stands, sampled-angles}
 use Rattle.scan.specs.Scan.{scan}
 use Rattle.scan.specs.Calls as calls
@@ -66,7 +67,7 @@ use Rattle.feeding.proofs.OneLength.{undecided-held, handed-last, empty
 use Rattle.feeding.proofs.CallParts.{fed-unsound, fed-over, fed-past}
 use Rattle.feeding.proofs.ContainedAt.{carried-datagrams, contained-at}
 use Rattle.feeding.proofs.AxisAt.{after-ruled, axisThen, total-then, then-bound, sighting-at, sightings-length, independent}
-use Rattle.feeding.proofs.DoubtAt.{counted-sightings, mark-unkept, mark-kept}
+use Rattle.feeding.proofs.DoubtAt.{counted-sightings, doubt-kept, mark-unkept, mark-kept}
 
 module _ (u : Setup) (ok : rulingOn u ≡ Accepted) where
   -- the session that opening gives is that of the fresh state
@@ -224,6 +225,21 @@ module _ (u : Setup) (ok : rulingOn u ≡ Accepted) where
 
     -- ---- totals that may have slipped
 
+    sum-kept :
+        (es : List (List ℕ)) → Among (isDatagram u) (streamOf u ps) es → getD (u .units) 0 0 ≡ 3 → (axis : ℕ) → axis < 3
+        → (before : List Counted) (last : Counted) (behind : List Counted) → counted u axis es ≡ before ++ (last ∷ behind)
+        → last .sighting .fit ≡ true → AllUnfit behind
+        → doubtAt (t .history .doubt) axis .samples .0 ≡ min (samplesOver (last .counter) behind) 65535
+    sum-kept es a three axis k before last behind e f x =
+        let carried : t .history ≡ carriedAfter (consumer u) noHistory es =
+        ap (λ (s : Session). s .history) is-session
+        ∙ delivered .carried
+        ∙ ap (carriedAfter (consumer u) noHistory) (sym (delivered .only bare es a)) in
+        ap (λ (h : History). doubtAt (h .doubt) axis .samples .0) carried
+        ∙ ap (λ (q : AxisDoubt). q .samples .0) (doubt-kept u axis ok k es (integrated-kept u ok 0 (omega arith) three) (few es a))
+        ∙ ap (λ (ds : List Counted). doubtAfter (u .rate) false true 0 noDoubt ds .samples .0) e
+        ∙ kept-sum (u .rate) before last behind false true 0 noDoubt f x
+
     module _ (es : List (List ℕ)) (a : Among (isDatagram u) (streamOf u ps) es) (three : getD (u .units) 0 0 ≡ 3) (axis : ℕ) (k : axis < 3) (i : ℕ) (l : i < length es) where
       abbrev mark : Bool
       mark = markAt (getD os i noDatagram .doubtful) axis
@@ -246,7 +262,7 @@ module _ (u : Setup) (ok : rulingOn u ≡ Accepted) where
           ∙ ap (λ (s : List Sighting). totals.after noAxis (take (suc i) s)) (sym (counted-sightings u axis es))
 
       unmarked-at :
-          (fine : ℕ) → 0 < fine → (angles : List ℤ) → TrueAngles fine (counted u axis es) angles
+          (fine : ℕ) → 0 < fine → (angles : List ℤ) → TrueAngles fine (take (suc i) (counted u axis es)) angles
           → sighting u 0 axis (getD es i []) .fit ≡ true → mark ≡ false
           → (k : ℕ) × (k ≤ i) × FirstFit (counted u axis es) k
           × Stands u 0 axis fine (getD angles k (pos 0)) (getD angles i (pos 0)) (getD os i noDatagram)
@@ -254,7 +270,7 @@ module _ (u : Setup) (ok : rulingOn u ≡ Accepted) where
           let cs = counted u axis es in
           let here = getD-map (countedSighting u axis) es i [] slipped.none l in
           let r =
-          unmarked-stands (u .rate) fine some cs angles A true 0 i (omega (arith, length-map es (countedSighting u axis)))
+          unmarked-stands (u .rate) fine some cs i (omega (arith, length-map es (countedSighting u axis))) angles A true 0
           (ap (λ (c : Counted). c .sighting .fit) here ∙ fit) (sym marked-by ∙ m) in (
             r .0,
             r .1,
@@ -264,19 +280,20 @@ module _ (u : Setup) (ok : rulingOn u ≡ Accepted) where
           )
 
       sampled-at :
-          (fine : ℕ) → 0 < fine → (angle : ℕ → ℤ) (at : List ℕ) → SampledAngles fine (counted u axis es) angle at
+          (fine : ℕ) → 0 < fine → (angle : ℕ → ℤ) (at : List ℕ) → SampledAngles fine (take (suc i) (counted u axis es)) angle at
           → sighting u 0 axis (getD es i []) .fit ≡ true → mark ≡ false
           → (k : ℕ) × (k ≤ i) × FirstFit (counted u axis es) k × Stands u 0 axis fine (angle (getD at k 0)) (angle (getD at i 0)) (getD os i noDatagram)
       sampled-at fine some angle at A fit m =
-          let r = unmarked-at fine some (map angle at) (sampled-angles fine angle (counted u axis es) at A) fit m in
-          let long = length-map es (countedSighting u axis) in (
+          let r = unmarked-at fine some (map angle at) (sampled-angles fine angle (take (suc i) (counted u axis es)) at A) fit m in
+          let long = length-map es (countedSighting u axis) in
+          let all : length at ≡ suc i = A .one-each ∙ length-take-le (suc i) (counted u axis es) (omega arith) in (
             r .0,
             r .1,
             r .2,
             subst (λ (z : ℤ). Stands u 0 axis fine z (angle (getD at i 0)) (getD os i noDatagram))
-                (getD-map angle at (r .0) 0 (pos 0) (omega (arith, r .1, A .one-each)))
+                (getD-map angle at (r .0) 0 (pos 0) (omega (arith, r .1)))
                 (subst (λ (z : ℤ). Stands u 0 axis fine (getD (map angle at) (r .0) (pos 0)) z (getD os i noDatagram))
-                (getD-map angle at i 0 (pos 0) (omega (arith, A .one-each))) (r .3)),
+                (getD-map angle at i 0 (pos 0) (omega arith)) (r .3)),
           )
 
   -- ---- each true value is carried by one of the datagrams
@@ -343,8 +360,9 @@ module _ (u : Setup) (ok : rulingOn u ≡ Accepted) where
             λ c es a other axis k i l.
             ap (λ (os : List Datagram). markAt (getD os i noDatagram .doubtful) axis) (answers c es a)
             ∙ mark-unkept u axis ok k es i l (other-not-kept u ok 0 other);
-        unmarked = λ c es a three axis k fine some angles A i l fit m. unmarked-at c es a three axis k i l fine some angles A fit m;
-        unmarked-by-samples = λ c es a three axis k fine some angle at A i l fit m. sampled-at c es a three axis k i l fine some angle at A fit m;
+        sum = λ c es a three axis k before last behind e f x. sum-kept c es a three axis k before last behind e f x;
+        unmarked = λ c es a three axis k i l fit m fine some angles A. unmarked-at c es a three axis k i l fine some angles A fit m;
+        unmarked-by-samples = λ c es a three axis k i l fit m fine some angle at A. sampled-at c es a three axis k i l fine some angle at A fit m;
       }
 
   -- the session counts the datagrams handed out

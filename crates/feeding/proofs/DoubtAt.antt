@@ -1,12 +1,11 @@
 -- The sum and the mark of a gyro axis after datagrams, and in the answer at a place: what the axis sees of the datagrams up to there, and their counters,
 -- alone decide them (02, 2.5). Assumes nothing.
 use Prim.Native.Nat.{ℕ, suc, _+_, _*_, _^_, _≤_, _<_}
-use mathlib.Core.Path.{_≡_, refl, sym, ap, _∙_, subst}
+use mathlib.Core.Path.{_≡_, refl, sym, ap, _∙_}
 use mathlib.Core.Bool.{Bool, true, false, _||_}
 use mathlib.Core.List.{List, [], _∷_, map}
 use native.Mathlib.Omega.{arith}
 use borrow.Author.Tests.{ne-eqb}
-use lib.Dec.{eqb}
 use lib.IntN.{natAbs}
 use lib.ListN.{length, take, getD}
 use lib.Seq.{length-take-le}
@@ -20,7 +19,7 @@ use Rattle.motion.specs.Totals.{Sighting, groupsKept, keeps, keptStep, axisAt}
 use Rattle.motion.specs.declared.Axis.{Axis}
 use Rattle.motion.proofs.Bounds.{step-bound, total-small, begun-next}
 use Rattle.motion.proofs.NineAxes.{kept-at, none-at}
-use Rattle.doubt.specs.Doubt.{added, noDoubt, noGyroDoubt, doubtStep, keptDoubt, doubtAt, markAt}
+use Rattle.doubt.specs.Doubt.{added, noDoubt, doubtStep, keptDoubt, doubtAt, markAt}
 use Rattle.doubt.specs.Slipped.{Counted}
 use Rattle.doubt.specs.declared.AxisDoubt.{AxisDoubt}
 use Rattle.doubt.proofs.DoubtLaws.{gyro-step-at, kept-doubt, unkept-doubt, no-doubt-at}
@@ -111,6 +110,15 @@ module _ (u : Setup) (axis : ℕ) (ok : rulingOn u ≡ Accepted) (k : axis < 3) 
       doubtAfter (u .rate) (begun-then e x d (total-small n (axisAt (x .axes) 0 axis .total) (omega arith) b) i) (later-then e x d i) (counter-then e x d i)
       (doubt-then e x d i) (counted u axis ds))
 
+  -- from a fresh session
+  pub doubt-kept :
+      (ds : List (List ℕ)) → keeps u 0 ≡ true → length ds ≤ 2 ^ 30
+      → doubtAt (carriedAfter (consumer u) noHistory ds .doubt) axis ≡ doubtAfter (u .rate) false true 0 noDoubt (counted u axis ds)
+  doubt-kept ds e few =
+      let none = none-at 0 axis (omega arith) k in
+      carried-doubt e noHistory ds 0 (omega (arith, ap (λ (a : Axis). natAbs (a .total)) none)) (omega arith)
+      ∙ (λ j. doubtAfter (u .rate) (none j .begun) true 0 (no-doubt-at axis k j) (counted u axis ds))
+
   -- ---- the mark in the answer at a place
 
   module _ (ds : List (List ℕ)) (i : ℕ) (l : i < length ds) where
@@ -130,10 +138,7 @@ module _ (u : Setup) (axis : ℕ) (ok : rulingOn u ≡ Accepted) (k : axis < 3) 
         keeps u 0 ≡ true → length ds ≤ 2 ^ 30
         → markAt (getD (answersFor u ds) i noDatagram .doubtful) axis ≡ doubtAfter (u .rate) false true 0 noDoubt (take (suc i) (counted u axis ds)) .marked
     mark-kept e few =
-        let es = take (suc i) ds in
-        let none = none-at 0 axis (omega arith) k in
         mark-then
         ∙ ap (λ (q : AxisDoubt). q .marked)
-        (carried-doubt e noHistory es 0 (omega (arith, ap (λ (a : Axis). natAbs (a .total)) none)) (omega (arith, length-take-le (suc i) ds (omega arith)))
-        ∙ (λ j. doubtAfter (u .rate) (none j .begun) true 0 (no-doubt-at axis k j) (counted u axis es))
+        (doubt-kept (take (suc i) ds) e (omega (arith, length-take-le (suc i) ds (omega arith)))
         ∙ ap (doubtAfter (u .rate) false true 0 noDoubt) (sym (take-map (countedSighting u axis) ds (suc i))))

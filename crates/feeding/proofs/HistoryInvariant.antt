@@ -19,7 +19,7 @@ use Rattle.search.specs.Search.{isDatagram}
 use Rattle.history.specs.History.{noHistory, historyNext}
 use Rattle.history.specs.declared.History.{History}
 use Rattle.feeding.specs.Feed.{historyAfter, historyRight, consumer}
-use Rattle.admission.proofs.AxisLaws.{kept-step, kept-none}
+use Rattle.admission.proofs.KeptLaws.{kept-step, kept-none}
 use Rattle.search.proofs.Datagrams.{datagram-length, datagram-parts}
 use Rattle.feeding.proofs.BySetup.{after-datagram}
 use Rattle.feeding.proofs.Refinement.{history-parts, parts-history}

@@ -19,7 +19,9 @@ use Rattle.integers.proofs.Parts.{parts-apart, natAbs-parts, sub-parts}
 use Rattle.crc.specs.Check.{stim300, shift, shifts, byteStep, register, padding, covered, checkOf, check32}
 use Rattle.setup.specs.Layout.{partsOf, rowAt, partsAt, groupsCarried}
 use Rattle.setup.specs.Sensor.{rateOf, unitOf, sensorOf}
-use Rattle.setup.specs.Setup.{lengthOf}
+use Rattle.setup.specs.Setup.{setupRules, rulingOn, lengthOf}
+use Rattle.setup.specs.declared.Setup.{Setup}
+use Rattle.setup.specs.declared.Ruling.the-variants.{Accepted}
 use Rattle.wire.specs.Fields.{fieldsOfPart, contentsOf, fieldsOf}
 use Rattle.acceptance.specs.Acceptable.{checkRight, endingRight, acceptableIn, acceptable}
 use Rattle.gaps.specs.Gaps.{elapsed}
@@ -28,7 +30,7 @@ use Rattle.motion.specs.Totals.{Sighting, noAxis, totalOf, totalAt, difference,
 use Rattle.motion.specs.declared.Total.{Total}
 use Rattle.doubt.specs.Doubt.{added, sumWith, marks, fitDoubt, unfitDoubt, doubtStep, keptDoubt, gyroStep, marksOf, markAt}
 use Rattle.doubt.specs.Slipped.{none, samplesOver, AllUnfit, SampledTurn, TrueAngles, SampledAngles, FirstFit}
-use Rattle.doubt.proofs.TrueAngle.{sampled-angles}
+use Rattle.doubt.proofs.TrueAngle.{up-to, sampled-angles}
 use Rattle.scan.specs.Scan.{scanFrom, scan}
 use Rattle.scan.specs.Front.{front}
 use Rattle.scan.specs.Calls.{Report}
@@ -43,13 +45,20 @@ use Rattle.feeding.specs.declared.Datagram.{Datagram}
 use Rattle.feeding.specs.Feed.{datagramWith, historyAfter, tell, consumer, noDatagram}
 use Rattle.feeding.specs.Promises.{streamOf, FedInTurn, answersFor, sightings, Stands, counted}
 use Rattle.feeding.proofs.Demands.{demand2, doubtful-totals}
-use Rattle.feeding.proofs.WorkedExample.{example, accepted-example}
 
--- of the setup of WorkedExample, the gyro alone, integrated, with shift 21: the reading of X, zeros for Y and Z, the status byte, the counter, latency 0, the check
+-- the gyro alone, integrated, with shift 21, at a datagram each sample, of which most are lost
+abbrev example : Setup
+example = record { rate = 2000; identifier = 0x90; termination = 0; units = 3 ∷ 0 ∷ 0 ∷ []; shifts = 21 ∷ 0 ∷ 0 ∷ [] }
+
+accepted-example : rulingOn example ≡ Accepted
+unfolding rulingOn setupRules rowAt partsAt groupsCarried partsOf
+accepted-example = refl
+
+-- a datagram: the reading of X, zeros for Y and Z, the status byte, the counter, latency 0, the check
 abbrev datagram : List ℕ → ℕ → ℕ → List ℕ → List ℕ
 datagram x status counter check = 0x90 ∷ (x ++ (0 ∷ 0 ∷ 0 ∷ 0 ∷ 0 ∷ 0 ∷ status ∷ counter ∷ 0 ∷ 0 ∷ check))
 
--- at the samples 0, 150, 158, 166, 175, 183 and 184; X is unfit at the first, the third and the fifth, and what these carry is none of its angle
+-- at the samples 0, 150, 158, 166, 175, 183 and 184; X is unfit at the first, the third and the fifth, and what these carry isn't its angle
 abbrev first : List ℕ
 first = datagram (0x12 ∷ 0x34 ∷ 0x56 ∷ []) 0x09 100 (0x27 ∷ 0x29 ∷ 0xE9 ∷ 0xD2 ∷ [])
 
@@ -175,10 +184,11 @@ module _ {os : List Datagram} {rs : List Report} {t : Session} (c : FedInTurn ex
 
   -- behind 16 samples the total isn't marked, and stands for the true change since the second datagram, the first fit one
   example-stands :
-      (k : ℕ) × (k ≤ 3) × FirstFit (counted example 0 datagrams) k × Stands example 0 0 100 (getD angles k (pos 0)) (pos 1644166368) (getD os 3 noDatagram)
+      (k : ℕ) × (k ≤ 3) × FirstFit (counted example 0 datagrams) k × Stands example 0 0 100 (getD (take 4 angles) k (pos 0)) (pos 1644166368) (getD os 3 noDatagram)
   example-stands =
-      doubtful-totals example accepted-example .unmarked c datagrams among-example refl 0 (omega arith) 100 (omega arith) angles true-example 3 (omega arith)
+      doubtful-totals example accepted-example .unmarked c datagrams among-example refl 0 (omega arith) 3 (omega arith)
       (ap (λ (bs : List Bool). getD bs 3 false) fits-example) (mark-at 3 (omega arith))
+      100 (omega arith) (take 4 angles) (up-to 100 4 (counted example 0 datagrams) angles true-example)
 
   -- the total at each place, by the rule for one axis
   total-at :

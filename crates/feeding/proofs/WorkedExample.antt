@@ -36,10 +36,10 @@ use Rattle.feeding.specs.Feed.{datagramWith, historyAfter, tell, noDatag
 use Rattle.feeding.specs.Promises.{streamOf, FedInTurn, answersFor, sighting, sightings, Stands, Carry}
 use Rattle.feeding.proofs.Demands.{demand3}
 
-abbrev pub example : Setup
+abbrev example : Setup
 example = record { rate = 1000; identifier = 0x90; termination = 0; units = 3 ∷ 0 ∷ 0 ∷ []; shifts = 21 ∷ 0 ∷ 0 ∷ [] }
 
-pub accepted-example : rulingOn example ≡ Accepted
+accepted-example : rulingOn example ≡ Accepted
 unfolding rulingOn setupRules rowAt partsAt groupsCarried partsOf
 accepted-example = refl
 

@@ -1,6 +1,6 @@
 -- What the requests ask of feeding (00-mission, demands 2 and 3; 01, How firmly it is promised, Totals; 02, 2.5), as types over the rules:
 -- every call on any session; and, of a setup, lists of pieces fed in turn.
-use Prim.Native.Nat.{ℕ, suc, _+_, _-_, _*_, _^_, _≤_, _<_}
+use Prim.Native.Nat.{ℕ, suc, _+_, _-_, _*_, _^_, _≤_, _<_, min}
 use mathlib.Core.Bool.{Bool, true, false, cond}
 use mathlib.Core.List.{List, [], _∷_, _++_, map}
 use mathlib.Core.Option.{none, some}
@@ -22,7 +22,7 @@ use Rattle.motion.specs.declared.GroupJudgements.{GroupJudgements}
 use Rattle.motion.specs.Totals.{noAxis, Sighting, axisStep, keeps, axisAt, totalAt, fitReadings, fitBefore, readingOf, Close, totalOf, after}
 use Rattle.doubles.specs.Doubles.{negative, plusZero, unitNumberIn, doublesIn, valuesFor, doubleAt}
 use Rattle.doubt.specs.Doubt.{added, noDoubt, doubtStep, doubtAt, markAt}
-use Rattle.doubt.specs.Slipped.{Counted, MaySlip, TrueAngles, SampledAngles, FirstFit}
+use Rattle.doubt.specs.Slipped.{Counted, samplesOver, AllUnfit, MaySlip, TrueAngles, SampledAngles, FirstFit}
 use Rattle.scan.specs.Scan.{scan, Undecided}
 use Rattle.scan.specs.Calls.{datagram, waiting, refused, Report}
 use Rattle.scan.specs.Stream.{stream, reports, NoTen, Begins, Among}
@@ -315,31 +315,39 @@ countedSighting u axis d = record { sighting = sighting u 0 axis d; counter = fi
 abbrev pub counted : Setup → ℕ → List (List ℕ) → List Counted
 counted u axis ds = map (countedSighting u axis) ds
 
--- of a setup whose gyro is set to integrated, each gyro axis by itself; in the units of the true angles that carry over an output step, of any shift:
--- with 21 the bound on their change is 480 °/s
+-- each gyro axis by itself. True angles count fine units, `fine` of which make an output step; of the shift nothing is asked, and with 21 the bound on the
+-- angles' change is 480 °/s
 pub record DoubtfulTotals (u : Setup) : Type 0 where
-  -- the mark that comes back with the datagram at a place, fit or not, is true if and only if, at some fit place up to and including it behind the axis's
-  -- first fit one, the d's of the datagrams since the fit place before add up to more than 16, or the rate is 0
+  -- of a gyro set to integrated: the mark that comes back with the datagram at a place, fit or not, is true if and only if, at some fit place up to and
+  -- including it behind the axis's first fit one, the d's of the datagrams since the fit place before add up to more than 16, or the rate is 0
   pub marked :
       {ps : List (List ℕ)} {os : List Datagram} {rs : List Report} {t : Session} → FedInTurn u ps os rs t
       → (es : List (List ℕ)) → Among (isDatagram u) (streamOf u ps) es
       → getD (u .units) 0 0 ≡ 3 → (axis : ℕ) → axis < 3 → (i : ℕ) → i < length es
       → (markAt (getD os i noDatagram .doubtful) axis ≡ true → MaySlip (u .rate) (take (suc i) (counted u axis es)))
       × (MaySlip (u .rate) (take (suc i) (counted u axis es)) → markAt (getD os i noDatagram .doubtful) axis ≡ true)
-  -- of any other setup there is no mark
+  -- of any other there is no mark
   pub never :
       {ps : List (List ℕ)} {os : List Datagram} {rs : List Report} {t : Session} → FedInTurn u ps os rs t
       → (es : List (List ℕ)) → Among (isDatagram u) (streamOf u ps) es
       → (getD (u .units) 0 0 ≡ 3 → ⊥) → (axis : ℕ) → axis < 3 → (i : ℕ) → i < length es → markAt (getD os i noDatagram .doubtful) axis ≡ false
-  -- where neighbouring datagrams lie 1 to 255 samples apart, by which their counters differ modulo 256, 100 × the change of the true angle between them is at most
-  -- 50,331,648 × fine for each of these samples, and each fit one carries its angle: every total that isn't marked and comes back with a fit datagram stands
-  -- for the true change since the axis's first fit one
+  -- the sum that the session keeps at the end: the d's of the datagrams behind the axis's last fit one, added up and stopping at 65,535
+  pub sum :
+      {ps : List (List ℕ)} {os : List Datagram} {rs : List Report} {t : Session} → FedInTurn u ps os rs t
+      → (es : List (List ℕ)) → Among (isDatagram u) (streamOf u ps) es
+      → getD (u .units) 0 0 ≡ 3 → (axis : ℕ) → axis < 3
+      → (before : List Counted) (last : Counted) (behind : List Counted) → counted u axis es ≡ before ++ (last ∷ behind)
+      → last .sighting .fit ≡ true → AllUnfit behind
+      → doubtAt (t .history .doubt) axis .samples .0 ≡ min (samplesOver (last .counter) behind) 65535
+  -- at a fit place i where the total isn't marked, if of the datagrams up to there neighbours lie 1 to 255 samples apart, by which their counters differ
+  -- modulo 256, 100 × the change of the true angle between them is at most 50,331,648 × fine for each of these samples, and each fit one carries its angle
+  -- over fine rounded down and folded: the total stands for the true change since the axis's first fit datagram
   pub unmarked :
       {ps : List (List ℕ)} {os : List Datagram} {rs : List Report} {t : Session} → FedInTurn u ps os rs t
       → (es : List (List ℕ)) → Among (isDatagram u) (streamOf u ps) es
       → getD (u .units) 0 0 ≡ 3 → (axis : ℕ) → axis < 3
-      → (fine : ℕ) → 0 < fine → (angles : List ℤ) → TrueAngles fine (counted u axis es) angles
       → (i : ℕ) → i < length es → sighting u 0 axis (getD es i []) .fit ≡ true → markAt (getD os i noDatagram .doubtful) axis ≡ false
+      → (fine : ℕ) → 0 < fine → (angles : List ℤ) → TrueAngles fine (take (suc i) (counted u axis es)) angles
       → (k : ℕ) × (k ≤ i) × FirstFit (counted u axis es) k
       × Stands u 0 axis fine (getD angles k (pos 0)) (getD angles i (pos 0)) (getD os i noDatagram)
   -- the same with a true angle at each internal sample, 100 × the change in each of which is at most 50,331,648 × fine; at: the sample of each datagram
@@ -347,7 +355,7 @@ pub record DoubtfulTotals (u : Setup) : Type 0 where
       {ps : List (List ℕ)} {os : List Datagram} {rs : List Report} {t : Session} → FedInTurn u ps os rs t
       → (es : List (List ℕ)) → Among (isDatagram u) (streamOf u ps) es
       → getD (u .units) 0 0 ≡ 3 → (axis : ℕ) → axis < 3
-      → (fine : ℕ) → 0 < fine → (angle : ℕ → ℤ) (at : List ℕ) → SampledAngles fine (counted u axis es) angle at
       → (i : ℕ) → i < length es → sighting u 0 axis (getD es i []) .fit ≡ true → markAt (getD os i noDatagram .doubtful) axis ≡ false
+      → (fine : ℕ) → 0 < fine → (angle : ℕ → ℤ) (at : List ℕ) → SampledAngles fine (take (suc i) (counted u axis es)) angle at
       → (k : ℕ) × (k ≤ i) × FirstFit (counted u axis es) k
       × Stands u 0 axis fine (angle (getD at k 0)) (angle (getD at i 0)) (getD os i noDatagram)

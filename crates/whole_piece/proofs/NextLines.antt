@@ -35,7 +35,7 @@ use Rattle.search.proofs.Datagrams.{datagram-parts}
 use Rattle.history.specs.History.{awaitsFirst, historyNext}
 use Rattle.admission.specs.Admission.{keptRight}
 use Rattle.history.specs.declared.History.{History}
-use Rattle.admission.proofs.AxisLaws.{kept-axes, kept-step}
+use Rattle.admission.proofs.KeptLaws.{kept-axes, kept-step}
 use Rattle.feeding.specs.Feed.{historyAfter, datagramWith, consumer}
 use Rattle.feeding.proofs.BySetup.{after-datagram, told-datagram}
 use Rattle.whole_piece.specs.Lines.{lineOf, linesAfter}
