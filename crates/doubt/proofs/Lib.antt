@@ -1,5 +1,5 @@
 -- Laws of the rules, which other crates cite as Rattle.doubt.proofs.NAME.
 pub mod DoubtLaws
 pub mod Sums
-pub mod TrueAngle
 pub mod AnglesMet
+pub mod TrueAngle

@@ -77,7 +77,7 @@ module _ (rate fine : ℕ) (h : 0 < fine) where
     where
       turned : 100 * natAbs (u -ℤ t) ≤ (n + elapsed p (d .counter) .0) * (greatestTurn * fine)
       turned =
-          let same = elapsed-by p (d .counter) (T .0 .samples) (T .0 .some) (T .0 .few) (T .0 .counted) in
+          let same = elapsed-by p (d .counter) (T .0 .samples) (omega (arith, T .0 .some)) (omega (arith, T .0 .few)) (T .0 .counted) in
           further fine n (elapsed p (d .counter) .0) t w u g
           (subst (λ (m : ℕ). 100 * natAbs (u -ℤ w) ≤ m * (greatestTurn * fine)) (sym same) (T .0 .bounded))
 
