@@ -175,6 +175,13 @@ fits-example : map (λ (s : Sighting). s .fit) (sightings example 0 0 datagrams)
 unfolding unfit fieldsOf fieldsOfPart partsAt rowAt partsOf bigEndian
 fits-example = refl
 
+-- the second is the first fit one
+only-second : (k : ℕ) → FirstFit (counted example 0 datagrams) k → k ≡ 1
+unfolding unfit fieldsOf fieldsOfPart partsAt rowAt partsOf bigEndian
+only-second zero f = absurd (let e = f .fit in let z : _≡_ {A = ℕ} 0 1 = cc in omega arith)
+only-second (suc zero) f = refl
+only-second (suc (suc k)) f = absurd (let e = f .none-before 1 (omega arith) in let z : _≡_ {A = ℕ} 0 1 = cc in omega arith)
+
 module _ {os : List Datagram} {rs : List Report} {t : Session} (c : FedInTurn example pieces os rs t) where
   mark-at : (i : ℕ) → i < 7 → markAt (getD os i noDatagram .doubtful) 0 ≡ getD (false ∷ false ∷ false ∷ false ∷ false ∷ true ∷ true ∷ []) i false
   mark-at i h =
@@ -183,12 +190,14 @@ module _ {os : List Datagram} {rs : List Report} {t : Session} (c : FedInTurn ex
       ∙ ap (λ (l : List Bool). getD l i false) marks-example
 
   -- behind 16 samples the total isn't marked, and stands for the true change since the second datagram, the first fit one
-  example-stands :
-      (k : ℕ) × (k ≤ 3) × FirstFit (counted example 0 datagrams) k × Stands example 0 0 100 (getD (take 4 angles) k (pos 0)) (pos 1644166368) (getD os 3 noDatagram)
+  example-stands : Stands example 0 0 100 (pos 838860000) (pos 1644166368) (getD os 3 noDatagram)
   example-stands =
+      let r =
       doubtful-totals example accepted-example .unmarked c datagrams among-example refl 0 (omega arith) 3 (omega arith)
       (ap (λ (bs : List Bool). getD bs 3 false) fits-example) (mark-at 3 (omega arith))
       100 (omega arith) (take 4 angles) (up-to 100 4 (counted example 0 datagrams) angles true-example)
+      in
+      subst (λ (k : ℕ). Stands example 0 0 100 (getD (take 4 angles) k (pos 0)) (pos 1644166368) (getD os 3 noDatagram)) (only-second (r .0) (r .2)) (r .3)
 
   -- the total at each place, by the rule for one axis
   total-at :

@@ -15,6 +15,7 @@ use Rattle.setup_line.proofs.LineAnswers.{line-number, line-numbers, refused-ze
 use Rattle.gaps.specs.declared.Gap.{Gap}
 use Rattle.motion.specs.declared.Totals.{Totals}
 use Rattle.motion.proofs.NineAxes.{none-at}
+use Rattle.doubt.proofs.DoubtLaws.{no-doubt-at}
 use Rattle.shown_line.specs.declared.Shown.{Shown}
 use Rattle.shown_line.specs.ShownLine.{writtenNumber}
 use Rattle.shown_line.proofs.ShownLaws.{shown-number, shown-numbers, shown-keeps, shown-whole, shown-enough, shown-short}
@@ -65,6 +66,7 @@ is-fresh u =
       counts = (refl, refl, refl);
       datagrams = (refl, refl);
       axes = none-at;
+      doubt = no-doubt-at;
     }
 
 session-opened : (u : Setup) → SessionOpened u

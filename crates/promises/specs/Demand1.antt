@@ -22,6 +22,7 @@ use Rattle.motion.specs.declared.Totals.{Totals}
 use Rattle.shown_line.specs.ShownLine.{shownText, outside, shownRules, writtenNumber, writtenBytes, shownAnswer, shownBuffer}
 use Rattle.shown_line.specs.declared.Shown.{Shown}
 use Rattle.text.specs.TextLine.{lineText, lineRules, lineAnswer, lineBuffer}
+use Rattle.doubt.specs.Doubt.{noDoubt, doubtAt}
 use Rattle.scan.specs.Calls.{Report}
 use Rattle.session.specs.Session.{opening}
 use Rattle.session.specs.declared.Session.{Session}
@@ -57,6 +58,7 @@ pub record IsFresh (u : Setup) (s : Session) : Type 0 where
   pub counts : (s .count ≡ 0) × (s .passed ≡ 0) × (s .fed ≡ 0)
   pub datagrams : (s .history .datagrams .0 ≡ 0) × (s .history .previous ≡ 0)
   pub axes : (group axis : ℕ) → group < 3 → axis < 3 → axisAt (s .history .axes) group axis ≡ noAxis
+  pub doubt : (axis : ℕ) → axis < 3 → doubtAt (s .history .doubt) axis ≡ noDoubt
 
 -- opening a session of it, `session::open`
 pub record SessionOpened (u : Setup) : Type 0 where
