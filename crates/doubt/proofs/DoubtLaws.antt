@@ -97,7 +97,12 @@ unfolding doubtStep fitDoubt unfitDoubt
 idle-step rate true d = refl
 idle-step rate false d = refl
 
--- the sum stays at most 65,535
+-- an unfit one adds its samples to the sum, stopping at 65,535
+unfit-adds : (rate : ℕ) (a : AxisDoubt) (d : Samples) → doubtStep rate true false a d .samples .0 ≡ min (a .samples .0 + d .0) 65535
+unfolding doubtStep unfitDoubt sumWith
+unfit-adds rate a d = refl
+
+-- so it stays at most 65,535
 pub step-most : (rate : ℕ) (begun fit : Bool) (a : AxisDoubt) (d : Samples) → a .samples .0 ≤ 65535 → doubtStep rate begun fit a d .samples .0 ≤ 65535
 unfolding doubtStep fitDoubt unfitDoubt
 step-most rate begun true a d h = omega arith
@@ -131,7 +136,7 @@ doubt-rules =
     record {
       later-adds = later-adds;
       first-adds = λ p c. ap (λ (s : Samples). s .0) (first-adds p c);
-      unfit-adds = λ rate a d. refl;
+      unfit-adds = unfit-adds;
       unfit-keeps = λ rate begun a d. unfit-mark rate begun a d;
       fit-ends = λ rate begun a d. refl;
       far-marks = λ rate a d h. fit-mark rate a d true (far-marks rate (sumWith (a .samples) d) (sum-far (a .samples) d h)) ∙ or-true (a .marked) refl;
