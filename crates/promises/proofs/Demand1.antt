@@ -40,7 +40,9 @@ use Rattle.whole_piece.proofs.BatchAnswers.{batch-number, batch-refused, batch-
 use Rattle.made_datagram.specs.Making.{madeNumber, madeBytes}
 use Rattle.made_datagram.specs.declared.Values.{Values}
 use Rattle.made_datagram.proofs.MadeLaws as making
-use Rattle.promises.specs.Demand1.{LineRead, SetupJudged, IsFresh, SessionOpened, PieceFed, LineWritten, ShownWritten, PieceReceived, DatagramMade, Demand1}
+use Rattle.printed_value.proofs.Answers as printed
+use Rattle.printed_value.proofs.ValueLaws.{value-longest}
+use Rattle.promises.specs.Demand1.{LineRead, SetupJudged, IsFresh, SessionOpened, PieceFed, LineWritten, ShownWritten, PieceReceived, DatagramMade, ValuePrinted, Demand1}
 
 line-read : (l : List ℕ) → LineRead l
 line-read l =
@@ -172,6 +174,23 @@ datagram-made b u readings v =
       fits = λ e h l. let a = making.made-enough b u readings v (number-accepted u e) h l in (ap madeNumber a, ap madeBytes a);
     }
 
+value-printed : (b : List ℕ) (n : ℤ) (shift places : ℕ) → ValuePrinted b n shift places
+value-printed b n shift places =
+    record {
+      front =
+          record {
+            ruled = printed.printed-number b n shift places;
+            refused = λ e. printed.refused-keeps b n shift places e;
+            written = λ e. printed.printed-whole b n shift places e;
+          };
+      numbers = λ e. printed.printed-numbers b n shift places e;
+      out-of-range = printed.seventeen b n shift places;
+      beyond = printed.eighteen b n shift places;
+      too-short = printed.nineteen b n shift places;
+      fits = printed.enough b n shift places;
+      room = value-longest n shift places;
+    }
+
 pub demand1 : Demand1
 demand1 =
     record {
@@ -183,4 +202,5 @@ demand1 =
       shown-written = shown-written;
       piece-received = piece-received;
       datagram-made = datagram-made;
+      value-printed = value-printed;
     }

@@ -50,6 +50,8 @@ use Rattle.doubles.proofs.Starred.{starred}
 use Rattle.shown_line.proofs.Thirteen.{inside-passes, passes-inside}
 use Rattle.search.specs.Search.{isDatagram}
 use Rattle.search.proofs.Datagrams.{datagram-parts, datagram-first}
+use Rattle.printed_value.proofs.ValueLaws.{prints, prints-only}
+use Rattle.printed_value.proofs.WorkedValues.{worked-values}
 use Rattle.promises.specs.PaperRules.{MadeUp, PaperRules}
 
 -- ---- the row of a line of the table
@@ -230,6 +232,9 @@ paper-rules =
       inside-widths = fifteen.inside-passes;
       passes-widths = fifteen.passes-inside;
       worked = worked;
+      printed = prints;
+      printed-only = λ n shift places p. prints-only n shift places p;
+      printed-cases = worked-values;
       not-above = floor-not-above;
       greatest = floor-greatest;
       folded = folded;

@@ -2,13 +2,13 @@
 -- which numbers can come out.
 -- Received bytes are lent as `&[u8]`, which no function can write; that every call ends, and judges its own input, is the language's: no public
 -- function has a `requires`.
-use Prim.Native.Nat.{ℕ, _≤_, _<_}
+use Prim.Native.Nat.{ℕ, _^_, _≤_, _<_}
 use mathlib.Core.Bool.{true, false}
 use mathlib.Core.List.{List, [], _∷_, _++_}
 use mathlib.Core.Logic.{_⊎_}
 use mathlib.Core.Option.{Option, none, some}
 use mathlib.Core.Path.{_≡_}
-use lib.IntN.{ℤ}
+use lib.IntN.{ℤ, natAbs}
 use lib.ListN.{length, drop, replicate}
 use Rattle.setup.specs.Setup.{Rule, firstNumber, rulingNumber, setupNumber, rulingOn, zeroSetup, lengthOf}
 use Rattle.setup.specs.declared.Setup.{Setup}
@@ -21,6 +21,7 @@ use Rattle.motion.specs.Totals.{noAxis, axisAt}
 use Rattle.motion.specs.declared.Totals.{Totals}
 use Rattle.shown_line.specs.ShownLine.{shownText, outside, shownRules, writtenNumber, writtenBytes, shownAnswer, shownBuffer}
 use Rattle.shown_line.specs.declared.Shown.{Shown}
+use Rattle.printed_value.specs.PrintedValue.{valueText, valueRules, printedNumber, printedBytes, printedAnswer, printedBuffer}
 use Rattle.text.specs.TextLine.{lineText, lineRules, lineAnswer, lineBuffer}
 use Rattle.doubt.specs.Doubt.{noDoubt, doubtAt}
 use Rattle.scan.specs.Calls.{Report}
@@ -167,6 +168,26 @@ pub record DatagramMade (b : List ℕ) (u : Setup) (readings : List (List ℤ)) 
       setupNumber u ≡ none → making.outside u readings v ≡ false → lengthOf u ≤ length b
       → (madeNumber (madeAnswer b u readings v) ≡ none) × (madeBytes (madeAnswer b u readings v) ≡ lengthOf u)
 
+-- printing a value into the lent buffer b, `printing::print_value` (02, 2.6)
+pub record ValuePrinted (b : List ℕ) (n : ℤ) (shift places : ℕ) : Type 0 where
+  -- by 17 to 19, or the text
+  pub front :
+      let answer = printedAnswer b n shift places in
+      AtFront (valueRules n shift places (length b)) (valueText n shift places) b (printedNumber answer) (printedBytes answer)
+      (printedBuffer b n shift places)
+  pub numbers : {k : ℕ} → printedNumber (printedAnswer b n shift places) ≡ some k → Between 17 19 k
+  -- 17 comes first, then 18, then 19, which refuses exactly a buffer shorter than the text
+  pub out-of-range : (9 < places) ⊎ (31 < shift) → printedNumber (printedAnswer b n shift places) ≡ some 17
+  pub beyond : places ≤ 9 → shift ≤ 31 → 2 ^ 53 < natAbs n → printedNumber (printedAnswer b n shift places) ≡ some 18
+  pub too-short :
+      places ≤ 9 → shift ≤ 31 → natAbs n ≤ 2 ^ 53 → length b < length (valueText n shift places)
+      → printedNumber (printedAnswer b n shift places) ≡ some 19
+  pub fits :
+      places ≤ 9 → shift ≤ 31 → natAbs n ≤ 2 ^ 53 → length (valueText n shift places) ≤ length b
+      → printedNumber (printedAnswer b n shift places) ≡ none
+  -- it never does if the buffer has 27 bytes
+  pub room : places ≤ 9 → natAbs n ≤ 2 ^ 53 → length (valueText n shift places) ≤ 27
+
 pub record Demand1 : Type 0 where
   pub line-read : (l : List ℕ) → LineRead l
   pub setup-judged : (u : Setup) → SetupJudged u
@@ -180,3 +201,4 @@ pub record Demand1 : Type 0 where
       → ShownWritten b shown ordinal counter latency gap readings statuses totals
   pub piece-received : (s : Session) (p b : List ℕ) → PieceReceived s p b
   pub datagram-made : (b : List ℕ) (u : Setup) (readings : List (List ℤ)) (v : Values) → DatagramMade b u readings v
+  pub value-printed : (b : List ℕ) (n : ℤ) (shift places : ℕ) → ValuePrinted b n shift places

@@ -1,5 +1,5 @@
 -- What the rules say that the other promises are stated by, as facts: so that a rule that is wrong in its definition and in the code alike is shut out
--- here (01, The setup line; Layout by identifier; The scan; Status, doubles, gaps; Totals; The text line; Bench cases; 02, 2.1 to 2.3, 2.5).
+-- here (01, The setup line; Layout by identifier; The scan; Status, doubles, gaps; Totals; The text line; Bench cases; 02, 2.1 to 2.3, 2.5, 2.6).
 use Prim.Native.Nat.{ℕ, suc, _+_, _*_, _/_, _%_, _^_, _≤_, _<_}
 use mathlib.Core.Bool.{Bool, true, false, _||_, cond}
 use mathlib.Core.List.{List, [], _∷_, _++_}
@@ -33,6 +33,9 @@ use Rattle.doubles.specs.Starred.{Starred}
 use Rattle.doubt.specs.DoubtRules.{DoubtRules}
 use Rattle.shown_line.specs.ShownLine.{outside}
 use Rattle.shown_line.specs.PassedLine.{PassesThirteen}
+use Rattle.printed_value.specs.PrintedValue.{valueText}
+use Rattle.printed_value.specs.Prints.{Prints}
+use Rattle.printed_value.specs.WorkedValues.{WorkedValues}
 use Rattle.search.specs.Search.{isDatagram}
 
 -- the bytes of an acceptable datagram of a setup: the identifier and what else stands before the check, as many as its line of the table says;
@@ -124,6 +127,10 @@ pub record PaperRules : Type 0 where
   pub passes-widths : (u : Setup) (readings : List (List ℤ)) (v : Values) → PassesFifteen u readings v → making.outside u readings v ≡ false
   -- a datagram that carries every part, byte by byte
   pub worked : Worked
+  -- the text of a value is what 2.6 says that it is, and no other text is; texts worked out by hand
+  pub printed : (n : ℤ) (shift places : ℕ) → Prints n shift places (valueText n shift places)
+  pub printed-only : (n : ℤ) (shift places : ℕ) {t : List ℕ} → Prints n shift places t → t ≡ valueText n shift places
+  pub printed-cases : WorkedValues
   -- rounded down is the greatest whole number not above
   pub not-above : (z : ℤ) (d : ℕ) → 0 < d → (floor z d *ℤ pos d) ≤ℤ z
   pub greatest : (z q : ℤ) (d : ℕ) → 0 < d → (q *ℤ pos d) ≤ℤ z → q ≤ℤ (floor z d)

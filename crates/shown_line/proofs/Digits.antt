@@ -60,13 +60,13 @@ module _ (P : ℕ → List ℕ → Type 0) (one : (n : ℕ) → n < 10 → P n (
 
 -- ---- what every text is
 
-digit-is : (d : ℕ) → d < 10 → isDigit (0x30 + d) ≡ true
+pub digit-is : (d : ℕ) → d < 10 → isDigit (0x30 + d) ≡ true
 digit-is d h = rw (le-leb 0x30 (0x30 + d) (omega arith), le-leb (0x30 + d) 0x39 (omega arith))
 
-digit-value : (d : ℕ) → d < 10 → digitValue (0x30 + d) ≡ d
+pub digit-value : (d : ℕ) → d < 10 → digitValue (0x30 + d) ≡ d
 digit-value d h = rw (digit-is d h) (omega arith)
 
-value-append : (n : ℕ) (xs ys : List ℕ) → decimalFrom n (xs ++ ys) ≡ decimalFrom (decimalFrom n xs) ys
+pub value-append : (n : ℕ) (xs ys : List ℕ) → decimalFrom n (xs ++ ys) ≡ decimalFrom (decimalFrom n xs) ys
 unfolding decimalFrom
 value-append n [] ys = refl
 value-append n (x ∷ xs) ys = value-append (n * 10 + digitValue x) xs ys
@@ -78,7 +78,7 @@ digits-value =
     digits-ind (λ n ds. decimalFrom 0 ds ≡ n) (λ n h. zero-add (digitValue (0x30 + n)) ∙ digit-value n h)
     (λ n ds h e. value-append 0 ds ((0x30 + n % 10) ∷ []) ∙ rw (e, digit-value (n % 10) (omega arith)) (omega arith))
 
-all-append : (xs : List ℕ) (y : ℕ) → allDigits xs ≡ true → isDigit y ≡ true → allDigits (xs ++ y ∷ []) ≡ true
+pub all-append : (xs : List ℕ) (y : ℕ) → allDigits xs ≡ true → isDigit y ≡ true → allDigits (xs ++ y ∷ []) ≡ true
 unfolding allDigits
 all-append [] y e f = rw f
 all-append (x ∷ xs) y e f = let t = and-split (isDigit x) (allDigits xs) e in and-true (t .0) (all-append xs y (t .1) f)
@@ -97,6 +97,10 @@ leads : (n : ℕ) → Leads n (digits n)
 leads =
     digits-ind Leads (λ n h. (omega arith, λ k. omega arith))
     (λ n ds h e. (omega (arith, length-append ds ((0x30 + n % 10) ∷ [])), λ k. rw (List·getD-append ds ((0x30 + n % 10) ∷ []) 0 0 (e .0)) (e .1 (omega arith))))
+
+-- it has a digit
+pub digits-some : (n : ℕ) → 1 ≤ length (digits n)
+digits-some n = leads n .0
 
 -- only `0` itself begins with a zero
 pub no-leading-zero : (n : ℕ) → 1 ≤ n → 0x31 ≤ getD (digits n) 0 0

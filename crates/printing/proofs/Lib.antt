@@ -1,0 +1,3 @@
+-- Laws for the functions that print a value.
+pub mod WholeAndFraction
+pub mod TextParts

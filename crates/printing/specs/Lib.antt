@@ -1,0 +1,2 @@
+-- What the functions that print a value cite beside the rules.
+pub mod Writing
