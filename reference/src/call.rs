@@ -18,6 +18,8 @@
 //!   AUX, AUX status, counter, latency; the buffer's length (2), the byte that
 //!   fills it
 //! * 7, a rehearsal line: its bytes
+//! * 8, a value to print: number (8), shift (2), places (2), the buffer's length
+//!   (2), the byte that fills it
 //!
 //! A setup is rate (2 bytes), identifier (1), termination (2), three units (2
 //! each), three shifts (2 each). A session is the setup; 64 held bytes, their
@@ -42,6 +44,7 @@
 //! * `record N made A BUFFER`, A and BUFFER as for a text line
 //! * `record N rehearsal A`, A `too long`, `other count`, `no number`, or `values`
 //!   and the 28 values in the order of a datagram to write
+//! * `record N value A BUFFER`, A and BUFFER as for a text line
 //! * `session` and: setup, the 64 held bytes in hexadecimal, count, datagrams,
 //!   passed over, fed, previous counter, nine axes (begun, last, total), three pairs
 //!   for gyro X, Y and Z (sum, mark)
@@ -61,6 +64,7 @@ use crate::make::{write_datagram, Values};
 use crate::rehearsal::{read_rehearsal_line, Fault};
 use crate::session::{feed, open_session, Answer, Outcome, Session};
 use crate::setup::{judge_setup, read_setup_line, Setup};
+use crate::value::{print_value, Value};
 use crate::whole_piece::receive_lines;
 use crate::Refusal;
 
@@ -73,6 +77,7 @@ pub enum Call {
     WholePiece(Box<Session>, Vec<u8>, usize, u8),
     Make(Setup, Box<Values>, usize, u8),
     RehearsalLine(Vec<u8>),
+    Value(Value, usize, u8),
 }
 
 // -------------------------------------------------------------------- records
@@ -88,6 +93,7 @@ pub fn record_of(call: &Call) -> Vec<u8> {
         }
         Call::Make(setup, values, room, fill) => (6, make_bytes(setup, values, *room, *fill)),
         Call::RehearsalLine(line) => (7, line.clone()),
+        Call::Value(value, room, fill) => (8, value_bytes(value, *room, *fill)),
     };
     let length = u16::try_from(payload.len()).expect("a record is short");
     let mut record = vec![kind];
@@ -185,6 +191,19 @@ fn make_bytes(setup: &Setup, values: &Values, room: usize, fill: u8) -> Vec<u8> 
     bytes
 }
 
+fn value_bytes(value: &Value, room: usize, fill: u8) -> Vec<u8> {
+    let mut bytes = value.number.to_le_bytes().to_vec();
+    bytes.extend(value.shift.to_le_bytes());
+    bytes.extend(value.places.to_le_bytes());
+    bytes.extend(
+        u16::try_from(room)
+            .expect("a buffer is short")
+            .to_le_bytes(),
+    );
+    bytes.push(fill);
+    bytes
+}
+
 // -------------------------------------------------------------------- answers
 
 /// What the reference answers, behind the record's number.
@@ -216,6 +235,11 @@ pub fn answer_text(call: &Call) -> String {
             made_text(&write_datagram(setup, values, &mut buffer), &buffer)
         }
         Call::RehearsalLine(line) => rehearsal_text(&read_rehearsal_line(line)),
+        Call::Value(value, room, fill) => {
+            let mut buffer = vec![*fill; *room];
+            let written = print_value(value.number, value.shift, value.places, &mut buffer);
+            value_text(&written, &buffer)
+        }
     }
 }
 
@@ -266,6 +290,11 @@ pub fn rehearsal_text(read: &Result<Values, Fault>) -> String {
         Err(Fault::NoNumber) => "no number".to_string(),
     };
     format!("rehearsal {answer}\n")
+}
+
+/// The answer to a value to print, with the buffer afterwards.
+pub fn value_text(written: &Result<usize, Refusal>, buffer: &[u8]) -> String {
+    format!("value {} {}\n", written_text(written), hexadecimal(buffer))
 }
 
 fn written_text(written: &Result<usize, Refusal>) -> String {

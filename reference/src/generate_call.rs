@@ -10,10 +10,12 @@ use crate::generate::{
 };
 use crate::generate_make;
 use crate::generate_sums;
+use crate::generate_value;
 use crate::layout::{datagram_length, layout_of};
 use crate::line::{judge_line, text_of, Line};
 use crate::listed;
 use crate::listed_sums;
+use crate::listed_values;
 use crate::random::Random;
 use crate::session::{
     feed, keeps_totals, open_session, Axis, Doubt, Session, MOST_HELD, MOST_SAMPLES,
@@ -22,8 +24,8 @@ use crate::setup::{setup_line, Setup, INTEGRATED};
 use crate::whole_piece::{lines_of, ROOM_FOR_LINES};
 use crate::{GYRO, HIGHEST_READING, LOWEST_READING, PIECE_LIMIT, STREAM_LIMIT};
 
-/// The longest buffer that a line record lends.
-const LONGEST_BUFFER: usize = 400;
+/// The longest buffer that a record of a line or of a value lends.
+pub const LONGEST_BUFFER: usize = 400;
 
 /// The generated records that crates/probe keeps.
 const STORED_SEED: u64 = generate_make::STORED_SEED;
@@ -54,19 +56,29 @@ pub fn stored_calls() -> Vec<Call> {
         add_lines_case(STORED_SEED, number, calls);
     }));
     stored.extend(generate_make::stored_calls());
+    stored.extend(listed_values::calls());
     stored
 }
 
-/// The first `count` calls of a seed, of every kind.
+/// The first `count` calls of a seed, of every kind: a value to print behind each seven
+/// cases of a setup.
 pub fn calls(seed: u64, count: usize) -> Vec<Call> {
-    // Seven in turn: no divisor of 32, so that each kind has every setup of the cases.
-    first_calls(count, |number, calls| match number % 7 {
+    first_calls(count, |number, calls| match (number / 8, number % 8) {
+        (turn, 7) => calls.push(generate_value::value_call(seed, turn)),
+        (turn, place) => add_case_of_setup(seed, 7 * turn + place, calls),
+    })
+}
+
+/// One numbered case of any call that has a setup. Seven in turn: no divisor of 32, so
+/// that each kind has every setup of the cases.
+fn add_case_of_setup(seed: u64, number: u64, calls: &mut Vec<Call>) {
+    match number % 7 {
         3 => add_make_case(seed, number / 7, calls),
         4 => add_lines_case(seed, number, calls),
         5 => generate_sums::add_case(seed, 2 * (number / 7), calls),
         6 => generate_sums::add_case(seed, 2 * (number / 7) + 1, calls),
         _ => add_single_case(seed, number, calls),
-    })
+    }
 }
 
 /// The first `count` calls of the cases 0, 1 and so on.

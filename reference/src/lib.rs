@@ -15,14 +15,16 @@
 //! * [`make`]: writing a datagram (refusals 4 to 9, 15 and 16)
 //! * [`rehearsal`]: the line that a datagram is made from
 //! * [`make_program`]: what the making program writes for a whole input
+//! * [`value`]: a total or a reading in decimal digits (refusals 17 to 19)
 //!
 //! Beside it:
 //!
 //! * [`fast`]: the same program written for speed
 //! * [`random`], [`generate`], [`generate_make`], [`generate_call`],
-//!   [`generate_sums`]: adversarial inputs from a seed
+//!   [`generate_sums`], [`generate_value`]: adversarial inputs from a seed
 //! * [`call`]: single calls of the library as records, with their answers as text
-//! * [`listed`], [`listed_sums`]: calls written by hand, and at their edges
+//! * [`listed`], [`listed_sums`], [`listed_values`]: calls written by hand, and at
+//!   their edges
 //! * [`process`]: giving a program its input, and showing what it printed
 
 pub mod call;
@@ -33,10 +35,12 @@ pub mod generate;
 pub mod generate_call;
 pub mod generate_make;
 pub mod generate_sums;
+pub mod generate_value;
 pub mod layout;
 pub mod line;
 pub mod listed;
 pub mod listed_sums;
+pub mod listed_values;
 pub mod make;
 pub mod make_program;
 pub mod process;
@@ -45,6 +49,7 @@ pub mod random;
 pub mod rehearsal;
 pub mod session;
 pub mod setup;
+pub mod value;
 pub mod whole_piece;
 
 /// The number of a refusal, as listed in 01, "What is turned down", and in 02.

@@ -342,6 +342,38 @@ pub(crate) fn made_fill_of(s: &[u8]) -> u8
     byte_or_zero(s, 131)
 }
 
+// What a value is printed from.
+pub(crate) fn number_of(s: &[u8]) -> i64
+    ensures { λ r. ⌜ r ≡ signedLongAt (now (s .entry)) 0 ⌝ }
+{
+    i64_at(s, 0)
+}
+
+pub(crate) fn shift_of(s: &[u8]) -> u16
+    ensures { λ r. ⌜ r ≡ shortAt (now (s .entry)) 8 ⌝ }
+{
+    u16_at(s, 8)
+}
+
+pub(crate) fn places_of(s: &[u8]) -> u16
+    ensures { λ r. ⌜ r ≡ shortAt (now (s .entry)) 10 ⌝ }
+{
+    u16_at(s, 10)
+}
+
+// The length of the buffer to lend for it, and the byte that fills it.
+pub(crate) fn value_room_of(s: &[u8]) -> u16
+    ensures { λ r. ⌜ r ≡ shortAt (now (s .entry)) 12 ⌝ }
+{
+    u16_at(s, 12)
+}
+
+pub(crate) fn value_fill_of(s: &[u8]) -> u8
+    ensures { λ r. ⌜ r ≡ byteAt (now (s .entry)) 14 ⌝ }
+{
+    byte_or_zero(s, 14)
+}
+
 // The same for the lines of a whole piece, behind the session.
 pub(crate) fn lines_room_of(s: &[u8]) -> u32
     ensures { λ r. ⌜ r ≡ wordAt (now (s .entry)) 246 ⌝ }

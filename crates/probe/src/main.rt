@@ -10,6 +10,7 @@
 //     6, a datagram to write: the setup (0), nine readings (17), three statuses (53), nine temperatures (65), three temperature statuses (101),
 //        AUX (113), its status (117), counter (121), latency (125), the buffer's length (129), the byte that fills it (131)
 //     7, a rehearsal line: its bytes (0)
+//     8, a value to print: the number (0), shift (8), places (10), the buffer's length (12), the byte that fills it (14)
 // A setup is rate, identifier (one byte), termination, three units and three shifts. A session is the setup (0), held bytes (17), their
 // count (81), datagrams (89), bytes passed over (97), bytes fed (105), the previous counter (113), nine axes (114) of a begun mark, a last
 // reading and a total, three gyro axes (231) of a sum and a mark. A truncated record ends the program.
@@ -27,13 +28,18 @@ use given::lines_room_of;
 use given::made_fill_of;
 use given::made_grid_of;
 use given::made_room_of;
+use given::number_of;
 use given::ordinal_of;
+use given::places_of;
 use given::room_of;
 use given::session_of;
 use given::setup_of;
+use given::shift_of;
 use given::size_of;
 use given::statuses_of;
 use given::totals_of;
+use given::value_fill_of;
+use given::value_room_of;
 use given::values_of;
 use libc::STDIN_FILENO;
 use made_datagram::Made;
@@ -46,6 +52,7 @@ use shown::put_given;
 use shown::put_grid;
 use shown::put_made;
 use shown::put_number;
+use shown::put_printed;
 use shown::put_received;
 use shown::put_rehearsed;
 use shown::put_ruling;
@@ -242,6 +249,22 @@ fn rehearsal_record(s: &[u8]) {
     end_line();
 }
 
+// A value, with all of the buffer behind the answer.
+fn value_record(s: &[u8]) {
+    let room = (value_room_of(s) % 401) as usize;
+    let mut buffer = filled(value_fill_of(s));
+    let printed = printing::print_value(
+        &mut buffer[0..room],
+        number_of(s),
+        shift_of(s),
+        places_of(s),
+    );
+    put_text(b" value");
+    put_printed(printed);
+    put_buffer(buffer, room);
+    end_line();
+}
+
 fn answer_record(number: u64, kind: u8, payload: [u8; 6144], size: usize)
     requires { ⌜ size ≤ 6144 ⌝ }
 {
@@ -256,6 +279,7 @@ fn answer_record(number: u64, kind: u8, payload: [u8; 6144], size: usize)
         5 => lines_record(s),
         6 => made_record(s),
         7 => rehearsal_record(s),
+        8 => value_record(s),
         _ => end_line(),
     }
 }

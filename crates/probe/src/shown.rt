@@ -20,6 +20,7 @@ use motion::Judgement;
 use motion::Judgements;
 use motion::Total;
 use motion::Totals;
+use printed_value::Printed;
 use rehearsal::Rehearsed;
 use session::Session;
 use setup::Ruling;
@@ -354,6 +355,13 @@ pub(crate) fn put_made(made: Made) {
     match made {
         Made::Datagram(count) => put_count(count),
         Made::Refused(number) => put_refused(number),
+    }
+}
+
+pub(crate) fn put_printed(printed: Printed) {
+    match printed {
+        Printed::Text(count) => put_count(count),
+        Printed::Refused(number) => put_refused(number),
     }
 }
 

@@ -5,6 +5,8 @@
 
 #[path = "selftest/sums.rs"]
 mod sums;
+#[path = "selftest/values.rs"]
+mod values;
 
 use std::collections::HashSet;
 use std::env;
@@ -86,6 +88,7 @@ fn main() {
     generated_steps();
     wrong_steps();
     sums::check_all();
+    values::check_all();
     fast_decimals();
     sessions_along_streams();
     plain_against_fast(seed, count);
