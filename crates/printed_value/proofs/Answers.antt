@@ -1,24 +1,21 @@
 -- What 02, 2.6 says of the answer and of the lent buffer: what a refusal and a printed text leave, and which number refuses, in checking order.
 use Prim.Native.Nat.{ℕ, _^_, _≤_, _<_}
 use native.Mathlib.Omega.{arith}
-use mathlib.Core.Bool.{true, false, _||_}
+use mathlib.Core.Bool.{Bool, true, false, not, _||_}
 use mathlib.Core.List.{List, _++_}
 use mathlib.Core.Logic.{_⊎_, inl, inr}
 use mathlib.Core.Option.{none, some}
 use mathlib.Core.Path.{_≡_, refl, sym, ap, _∙_}
-use borrow.Author.Tests.{lt-ltb, le-ltb, lt-leb, ltb-false}
-use lib.Dec.{ltb}
+use borrow.Author.Tests.{not-false, lt-ltb, le-ltb, lt-leb, le-leb, ltb-false, leb-true}
+use lib.Dec.{ltb, leb}
 use lib.IntN.{ℤ, natAbs}
 use lib.ListN.{length, drop}
-use Rattle.integers.specs.Ranges.{within}
-use Rattle.integers.proofs.Booleans.{or-true}
-use Rattle.integers.proofs.Ranges.{le-within}
+use Rattle.integers.proofs.Booleans.{or-true, or-split}
 use Rattle.setup.specs.Setup.{firstNumber, rulingNumber}
 use Rattle.setup.specs.declared.Ruling.{Ruling}
 use Rattle.setup.specs.declared.Ruling.the-variants as ruling
 use Rattle.setup.proofs.Rules.{first-number, none-accepted, some-refused, buffer-refused, number-within, no-number}
-use Rattle.motion.specs.Totals.{greatestTotal}
-use Rattle.printed_value.specs.PrintedValue.{valueText, valueRules, printedBy, printedNumber, printedBytes, valueRuling, printedAnswer, printedBuffer}
+use Rattle.printed_value.specs.PrintedValue.{valueText, outOfRange, beyond, shorter, valueRules, printedBy, printedNumber, printedBytes, valueRuling, printedAnswer, printedBuffer}
 use Rattle.printed_value.specs.declared.Printed.{Printed}
 use Rattle.printed_value.specs.declared.Printed.the-variants.{Text, Refused}
 
@@ -26,6 +23,37 @@ use Rattle.printed_value.specs.declared.Printed.the-variants.{Text, Refu
 number-by : (j : Ruling) (text : List ℕ) → printedNumber (printedBy j text) ≡ rulingNumber j
 number-by ruling.Accepted text = refl
 number-by (ruling.Refused number) text = refl
+
+-- ---- the tests, by numbers
+
+pub out-of-range : (shift places : ℕ) → (9 < places) ⊎ (31 < shift) → outOfRange shift places ≡ true
+out-of-range shift places (inl h) = ap (λ (t : Bool). t || ltb 31 shift) (lt-ltb 9 places h)
+out-of-range shift places (inr h) = or-true (ltb 9 places) (lt-ltb 31 shift h)
+
+pub in-range : (shift places : ℕ) → places ≤ 9 → shift ≤ 31 → outOfRange shift places ≡ false
+in-range shift places p s = rw (le-ltb 9 places p, le-ltb 31 shift s)
+
+pub in-range-back : (shift places : ℕ) → outOfRange shift places ≡ false → (places ≤ 9) × (shift ≤ 31)
+in-range-back shift places e =
+    let t = or-split (ltb 9 places) (ltb 31 shift) e in
+    (ltb-false 9 places (t .0), ltb-false 31 shift (t .1))
+
+pub beyond-limit : (n : ℤ) → 2 ^ 53 < natAbs n → beyond n ≡ true
+beyond-limit n h = ap not (lt-leb (natAbs n) (2 ^ 53) h)
+
+pub within-limit : (n : ℤ) → natAbs n ≤ 2 ^ 53 → beyond n ≡ false
+within-limit n h = ap not (le-leb (natAbs n) (2 ^ 53) h)
+
+pub within-limit-back : (n : ℤ) → beyond n ≡ false → natAbs n ≤ 2 ^ 53
+within-limit-back n e = leb-true (natAbs n) (2 ^ 53) (not-false (leb (natAbs n) (2 ^ 53)) e)
+
+pub room-missing : (room : ℕ) (text : List ℕ) → room < length text → shorter room text ≡ true
+room-missing room text h = lt-ltb room (length text) h
+
+pub room-there : (room : ℕ) (text : List ℕ) → length text ≤ room → shorter room text ≡ false
+room-there room text h = le-ltb room (length text) h
+
+-- ---- the answer and the buffer
 
 module _ (b : List ℕ) (n : ℤ) (shift places : ℕ) where
   abbrev text : List ℕ
@@ -36,6 +64,34 @@ module _ (b : List ℕ) (n : ℤ) (shift places : ℕ) where
 
   abbrev buffer : List ℕ
   buffer = printedBuffer b n shift places
+
+  -- in checking order: 17
+  pub places-refused : outOfRange shift places ≡ true → (Refused 17 ≡ answer) × (b ≡ buffer)
+  unfolding printedAnswer printedBuffer valueRuling valueRules
+  places-refused h = rw h (refl, refl)
+
+  -- 18
+  pub number-refused : outOfRange shift places ≡ false → beyond n ≡ true → (Refused 18 ≡ answer) × (b ≡ buffer)
+  unfolding printedAnswer printedBuffer valueRuling valueRules
+  number-refused r h = rw (r, h) (refl, refl)
+
+  -- the same by numbers
+  pub seventeen : (9 < places) ⊎ (31 < shift) → printedNumber answer ≡ some 17
+  seventeen h = sym (ap printedNumber (places-refused (out-of-range shift places h) .0))
+
+  module _ (p : places ≤ 9) (s : shift ≤ 31) where
+    pub eighteen : 2 ^ 53 < natAbs n → printedNumber answer ≡ some 18
+    eighteen h = sym (ap printedNumber (number-refused (in-range shift places p s) (beyond-limit n h) .0))
+
+    -- 19 exactly for a buffer shorter than the text
+    module _ (w : natAbs n ≤ 2 ^ 53) where
+      pub nineteen : length b < length text → printedNumber answer ≡ some 19
+      unfolding printedAnswer valueRuling valueRules
+      nineteen h = rw (in-range shift places p s, within-limit n w, room-missing (length b) text h)
+
+      pub enough : length text ≤ length b → printedNumber answer ≡ none
+      unfolding printedAnswer valueRuling valueRules
+      enough h = rw (in-range shift places p s, within-limit n w, room-there (length b) text h)
 
   -- the number is that of the first rule that applies
   pub printed-number : printedNumber answer ≡ firstNumber (valueRules n shift places (length b))
@@ -64,36 +120,3 @@ module _ (b : List ℕ) (n : ℤ) (shift places : ℕ) where
       let a = none-accepted j (sym (number-by j text) ∙ e) in
       let l = no-number (valueRules n shift places (length b)) (sym printed-number ∙ e) in
       (ltb-false (length b) (length text) (l .1 .1 .0), rw a, rw a)
-
-  -- in checking order: 17
-  pub places-refused : (ltb 9 places || ltb 31 shift) ≡ true → (Refused 17 ≡ answer) × (b ≡ buffer)
-  unfolding printedAnswer printedBuffer valueRuling valueRules
-  places-refused h = rw h (refl, refl)
-
-  -- 18
-  pub number-refused : (ltb 9 places || ltb 31 shift) ≡ false → within greatestTotal n ≡ false → (Refused 18 ≡ answer) × (b ≡ buffer)
-  unfolding printedAnswer printedBuffer valueRuling valueRules
-  number-refused r h = rw (r, h) (refl, refl)
-
-  -- the same of numbers: 17 for places above 9 or a shift above 31
-  pub seventeen : (9 < places) ⊎ (31 < shift) → printedNumber answer ≡ some 17
-  seventeen (inl h) = sym (ap printedNumber (places-refused (rw (lt-ltb 9 places h)) .0))
-  seventeen (inr h) = sym (ap printedNumber (places-refused (or-true (ltb 9 places) (lt-ltb 31 shift h)) .0))
-
-  module _ (p : places ≤ 9) (s : shift ≤ 31) where
-    in-range : (ltb 9 places || ltb 31 shift) ≡ false
-    in-range = rw (le-ltb 9 places p, le-ltb 31 shift s)
-
-    -- 18 for a number beyond 2^53 in size
-    pub eighteen : 2 ^ 53 < natAbs n → printedNumber answer ≡ some 18
-    eighteen h = sym (ap printedNumber (number-refused in-range (lt-leb (natAbs n) (2 ^ 53) h) .0))
-
-    -- 19 exactly for a buffer shorter than the text
-    module _ (w : natAbs n ≤ 2 ^ 53) where
-      pub nineteen : length b < length text → printedNumber answer ≡ some 19
-      unfolding printedAnswer valueRuling valueRules
-      nineteen h = rw (in-range, le-within greatestTotal n w, lt-ltb (length b) (length text) h)
-
-      pub enough : length text ≤ length b → printedNumber answer ≡ none
-      unfolding printedAnswer valueRuling valueRules
-      enough h = rw (in-range, le-within greatestTotal n w, le-ltb (length b) (length text) h)

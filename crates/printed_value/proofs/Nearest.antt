@@ -1,7 +1,7 @@
 -- The nearest whole number, a half to the even one: that it is, that there is no other, and how large it is. Assumes nothing.
 use Prim.Native.Nat.{ℕ, _+_, _-_, _*_, _/_, _%_, _≤_, _<_}
 use mathlib.Core.Bool.{Bool, true, false, _&&_, _||_, cond}
-use mathlib.Core.Path.{_≡_, refl}
+use mathlib.Core.Path.{_≡_, refl, sym, ap}
 use native.Mathlib.Nat.{add-mul, one-mul, mul-one, mul-comm, mod-lt, div-add-mod', mul-le-mul-left, mul-le-mul-right}
 use native.Mathlib.Decide.{decLe}
 use native.Mathlib.Omega.{arith}
@@ -19,16 +19,16 @@ pub record Nearest (a b q : ℕ) : Type 0 where
   pub near : apart (q * b) a * 2 ≤ b
   pub even : apart (q * b) a * 2 ≡ b → q % 2 ≡ 0
 
-module _ (a b : ℕ) (h : 0 < b) where
-  abbrev odd-half : Bool
-  odd-half = eqb (a % b * 2) b && eqb (a / b % 2) 1
+abbrev odd-half : ℕ → ℕ → Bool
+odd-half a b = eqb (a % b * 2) b && eqb (a / b % 2) 1
 
+module _ (a b : ℕ) (h : 0 < b) where
   -- just a half is left, and not behind an odd number
-  even-half : odd-half ≡ false → a % b * 2 ≡ b → a / b % 2 ≡ 0
+  even-half : odd-half a b ≡ false → a % b * 2 ≡ b → a / b % 2 ≡ 0
   even-half o e = let n = eqb-false (a / b % 2) 1 (rw (eq-eqb (a % b * 2) b e) at o) in omega (arith, n)
 
   -- by the two tests of the definition
-  by-tests : (more odd : Bool) → ltb b (a % b * 2) ≡ more → odd-half ≡ odd → Nearest a b (cond (more || odd) (a / b + 1) (a / b))
+  by-tests : (more odd : Bool) → ltb b (a % b * 2) ≡ more → odd-half a b ≡ odd → Nearest a b (cond (more || odd) (a / b + 1) (a / b))
   by-tests true odd m o =
       let l = ltb-true b (a % b * 2) m in
       let e = div-add-mod' a b in
@@ -51,7 +51,7 @@ module _ (a b : ℕ) (h : 0 < b) where
 
   pub nearest-is : Nearest a b (nearestEven a b)
   unfolding nearestEven
-  nearest-is = by-tests (ltb b (a % b * 2)) odd-half refl refl
+  nearest-is = by-tests (ltb b (a % b * 2)) (odd-half a b) refl refl
 
   -- of two such numbers none is above the other
   not-less : {p q : ℕ} → Nearest a b p → Nearest a b q → p < q → ⊥
@@ -92,3 +92,13 @@ nearest-pairs k a b h =
     let e = add-mul (k * 2) q b in
     nearest-only (k * 2 * b + a) b h (nearest-is (k * 2 * b + a) b h)
     record { near = omega (arith, n .near); even = λ z. omega (arith, n .even (omega arith)) }
+
+-- by the test of the definition
+module _ (a b : ℕ) where
+  pub nearest-up : (ltb b (a % b * 2) || odd-half a b) ≡ true → a / b + 1 ≡ nearestEven a b
+  unfolding nearestEven
+  nearest-up e = sym (ap (λ (t : Bool). cond t (a / b + 1) (a / b)) e)
+
+  pub nearest-stays : (ltb b (a % b * 2) || odd-half a b) ≡ false → a / b ≡ nearestEven a b
+  unfolding nearestEven
+  nearest-stays e = sym (ap (λ (t : Bool). cond t (a / b + 1) (a / b)) e)

@@ -1,7 +1,7 @@
 -- 02, 2.6: the text of a total or a reading over 2^shift, with so many places; and what is turned down: 17, places above 9 or shift above 31; then 18, a
 -- number beyond 2^53 in size; then 19, a lent buffer shorter than the text.
 use Prim.Native.Nat.{ℕ, zero, suc, _+_, _*_, _/_, _%_, _^_}
-use mathlib.Core.Bool.{not, _&&_, _||_, cond}
+use mathlib.Core.Bool.{Bool, not, _&&_, _||_, cond}
 use mathlib.Core.List.{List, [], _∷_, _++_}
 use mathlib.Core.Option.{Option, none, some}
 use lib.Dec.{eqb, ltb}
@@ -54,14 +54,20 @@ valueText n shift places = signedText places (lastPlaces n shift places)
 -- ---- what is turned down
 
 -- 17: places above 9 or shift above 31
--- 18: the number is beyond 2^53 in size
+abbrev pub outOfRange : ℕ → ℕ → Bool
+outOfRange shift places = ltb 9 places || ltb 31 shift
+
+-- 18: a number beyond 2^53 in size
+abbrev pub beyond : ℤ → Bool
+beyond n = not (within greatestTotal n)
+
 -- 19: a buffer of `room` bytes is shorter than the text
+abbrev pub shorter : ℕ → List ℕ → Bool
+shorter room text = ltb room (length text)
+
 unfoldable pub valueRules : ℤ → ℕ → ℕ → ℕ → List Rule
 valueRules n shift places room =
-    rule 17 (ltb 9 places || ltb 31 shift) ∷
-    rule 18 (not (within greatestTotal n)) ∷
-    rule 19 (ltb room (length (valueText n shift places))) ∷
-    []
+    rule 17 (outOfRange shift places) ∷ rule 18 (beyond n) ∷ rule 19 (shorter room (valueText n shift places)) ∷ []
 
 -- ---- the answer and the buffer
 

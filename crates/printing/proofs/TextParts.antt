@@ -6,20 +6,19 @@ use mathlib.Core.Path.{_≡_, refl, sym, ap, _∙_, subst}
 use native.Mathlib.Decide.{decLt}
 use native.Mathlib.Nat.{zero-add, zero-mul, zero-div, zero-mod, one-le-pow, div-add-mod'}
 use native.Mathlib.Omega.{arith}
-use borrow.Author.Tests.{eq-eqb, ne-eqb, lt-ltb, le-ltb}
+use borrow.Author.Tests.{eq-eqb, ne-eqb, lt-ltb}
 use lib.Dec.{eqb, ltb}
 use lib.IntN.{ℤ, pos, natAbs}
 use lib.ListN.{length, length-append}
 use lib.Signed.{ltZ}
 use Rattle.integers.specs.Buffers.{Put}
-use Rattle.integers.specs.Ranges.{within}
 use Rattle.integers.proofs.Booleans.{or-true}
 use Rattle.integers.proofs.Buffers.{put-front, put-length, then-put}
-use Rattle.motion.specs.Totals.{greatestTotal}
 use Rattle.shown_line.specs.Decimal.{digits}
-use Rattle.printed_value.specs.PrintedValue.{nearestEven, lastDigits, behindWhole, placedText, valueText, valueRules, valueRuling, printedAnswer, printedBuffer}
+use Rattle.printed_value.specs.PrintedValue.{nearestEven, lastDigits, behindWhole, placedText, valueText, outOfRange, beyond, valueRules, valueRuling, printedAnswer, printedBuffer}
 use Rattle.printed_value.specs.declared.Printed.{Printed}
 use Rattle.printed_value.specs.declared.Printed.the-variants.{Text, Refused}
+use Rattle.printed_value.proofs.Answers.{room-missing, room-there}
 use Rattle.printed_value.proofs.LastDigits.{last-whole, last-behind}
 use Rattle.printed_value.proofs.ValueLaws.{behind-by, behind-length, text-by-sign, sign-of}
 use Rattle.printing.specs.Writing.{minusText, fractionLength, textOf, roomAnswer, roomBuffer}
@@ -92,11 +91,11 @@ fraction-few places = by (eqb places 0)
 module _ (b text : List ℕ) where
   pub room-short : length b < length text → (Refused 19 ≡ roomAnswer b text) × (b ≡ roomBuffer b text)
   unfolding roomAnswer roomBuffer
-  room-short h = rw (lt-ltb (length b) (length text) h) (refl, refl)
+  room-short h = rw (room-missing (length b) text h) (refl, refl)
 
   pub room-put : {b1 : List ℕ} {end : ℕ} → length text ≤ length b → Put b 0 text b1 end → (Text end ≡ roomAnswer b text) × (b1 ≡ roomBuffer b text)
   unfolding roomAnswer roomBuffer
-  room-put h p = rw (le-ltb (length b) (length text) h) (ap Text (p .place ∙ zero-add (length text)), p .bytes ∙ put-front b text h)
+  room-put h p = rw (room-there (length b) text h) (ap Text (p .place ∙ zero-add (length text)), p .bytes ∙ put-front b text h)
 
 -- ---- the text of the value
 
@@ -130,7 +129,7 @@ module _ (n : ℤ) (shift places : ℕ) where
       (sym (text-by-sign shift places n (ltZ n (pos 0) && ltb 0 m) m (sign-of n m) refl))
 
   -- what is left of the rules
-  module _ (b : List ℕ) (r : (ltb 9 places || ltb 31 shift) ≡ false) (w : within greatestTotal n ≡ true) where
+  module _ (b : List ℕ) (r : outOfRange shift places ≡ false) (w : beyond n ≡ false) where
     room-left : (roomAnswer b (valueText n shift places) ≡ printedAnswer b n shift places) × (roomBuffer b (valueText n shift places) ≡ printedBuffer b n shift places)
     unfolding printedAnswer printedBuffer valueRuling valueRules roomAnswer roomBuffer
     room-left = rw (r, w) (refl, refl)

@@ -48,7 +48,8 @@ fn nearest(a: u64, b: u64) -> u64
     }
 }
 
-// size / 2^shift rounded to so many places. Whole units are left aside in pairs, so that what is rounded fits 64 bits and is odd where all of it is.
+// size / 2^shift rounded to so many places. Whole units are left aside two by two: what is left fits 64 bits when scaled, and is rounded as all of it would
+// be, since an even number more turns no half.
 fn rounded(size: u64, shift: u16, places: u16) -> Size
     requires { ⌜ (size ≤ 2 ^ 53) × (shift ≤ 31) × (places ≤ 9) ⌝ }
     ensures { λ r. ⌜ (r .whole ≡ nearestEven (size * 10 ^ places) (2 ^ shift) / 10 ^ places) × (r .fraction ≡ nearestEven (size * 10 ^ places) (2 ^ shift) % 10 ^ places) ⌝ }
@@ -56,7 +57,8 @@ fn rounded(size: u64, shift: u16, places: u16) -> Size
     let unit = power_of_two(shift);
     let scale = power_of_ten(places);
     let pair = unit * 2;
-    let last = nearest(size % pair * scale, unit);
+    let rest = size % pair;
+    let last = nearest(rest * scale, unit);
     let whole = size / pair * 2 + last / scale;
     let fraction = last % scale;
     Size {
@@ -154,8 +156,9 @@ fn print_size(buffer: &mut [u8], minus: bool, size: Size, places: u16) -> Printe
 pub fn print_value(buffer: &mut [u8], number: i64, shift: u16, places: u16) -> Printed
     ensures { λ r. ⌜ r ≡ printedAnswer (now (buffer .entry)) number shift places ⌝ ∗ ⌜ now (buffer .exit) ≡ printedBuffer (now (buffer .entry)) number shift places ⌝ }
 {
+    let out_of_range = (9 < places) | (31 < shift);
     let beyond = !motion::fits_total(number);
-    if (9 < places) | (31 < shift) {
+    if out_of_range {
         return Printed::Refused(17);
     }
     if beyond {

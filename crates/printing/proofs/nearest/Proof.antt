@@ -1,7 +1,7 @@
 use borrow.Author.Needs.{needs}
 use native.Mathlib.Nat.{mod-lt, div-le-self}
 use native.Mathlib.Omega.{arith}
-use Rattle.printed_value.specs.PrintedValue.{nearestEven}
+use Rattle.printed_value.proofs.Nearest.{nearest-up, nearest-stays}
 use Rattle.printing.proofs.nearest.Statement.{statement}
 use Rattle.printing.proofs.nearest.Tie as tie
 
@@ -18,12 +18,10 @@ add-result : tie.Need-add-result
 add-result c = omega (arith, div-le-self (c .before .args .a) (c .before .args .b))
 
 returns : tie.Need-returns
-unfolding nearestEven
-returns c = rw (c .if1 .taken)
+returns c = nearest-up (c .before .args .a) (c .before .args .b) (c .if1 .taken)
 
 returns-2 : tie.Need-returns-2
-unfolding nearestEven
-returns-2 c = rw (c .if1 .left)
+returns-2 c = nearest-stays (c .before .args .a) (c .before .args .b) (c .if1 .left)
 
 pub nearest-spec : {M : Type 1} → statement M
 nearest-spec = tie.close (tie.spec div-quotient rem-twice mul-twice add-result returns returns-2)

@@ -1,27 +1,28 @@
-use mathlib.Core.Path.{_≡_, sym, _∙_}
-use mathlib.Core.Bool.{true}
+use mathlib.Core.Path.{_≡_, sym, ap, _∙_}
+use mathlib.Core.Bool.{false, not}
 use native.Mathlib.Omega.{arith}
-use borrow.Author.Tests.{not-true, not-false, ltb-false}
-use lib.Dec.{ltb}
 use lib.IntN.{natAbs}
 use mir.Syntax.{w64}
 use mir.ValLaws.{toZ-ofZ}
 use Rattle.integers.specs.Ranges.{within}
-use Rattle.integers.proofs.Ranges.{or-split, within-true}
 use Rattle.integers.proofs.Signed.{passed}
 use Rattle.motion.specs.Totals.{greatestTotal}
-use Rattle.printed_value.proofs.Answers.{places-refused, number-refused}
+use Rattle.printed_value.specs.PrintedValue.{beyond}
+use Rattle.printed_value.proofs.Answers.{in-range-back, within-limit-back, places-refused, number-refused}
 use Rattle.printing.proofs.TextParts.{value-parts, value-written}
 use borrow.Author.Needs.{needs}
 use Rattle.printing.proofs.print_value.Statement.{statement}
 use Rattle.printing.proofs.print_value.Tie as tie
 
--- 18's test of the number, and the size
-limit : (c : tie.After-fits-total) → c .fits-total .result ≡ within greatestTotal (c .before .before .args .number)
-limit c = passed w64 (within greatestTotal) (c .before .before .args .number) (c .before .before .fits .number) (c .fits-total .ensures)
+returns : tie.Need-returns
+returns c = let a = c .before .before .before .args in places-refused (a .buffer .now) (a .number) (a .shift) (a .places) (c .if1 .taken)
 
-inside : (c : tie.Else2) → within greatestTotal (c .before .before .before .before .args .number) ≡ true
-inside c = sym (limit (c .before .before)) ∙ not-false (c .before .before .fits-total .result) (c .if2 .left)
+-- 18's test of the number, and the size
+limit : (c : tie.After-fits-total) → not (c .fits-total .result) ≡ beyond (c .before .before .args .number)
+limit c = ap not (passed w64 (within greatestTotal) (c .before .before .args .number) (c .before .before .fits .number) (c .fits-total .ensures))
+
+inside : (c : tie.Else2) → beyond (c .before .before .before .before .args .number) ≡ false
+inside c = sym (limit (c .before .before)) ∙ c .if2 .left
 
 size : (c : tie.After-magnitude) → c .magnitude .result ≡ natAbs (c .before .before .before .before .before .args .number)
 size c =
@@ -31,13 +32,10 @@ size c =
 fits-total-requires : tie.Need-fits-total-requires
 fits-total-requires c κs = search needs
 
-returns : tie.Need-returns
-returns c = let a = c .before .before .before .args in places-refused (a .buffer .now) (a .number) (a .shift) (a .places) (c .if1 .taken)
-
 returns-2 : tie.Need-returns-2
 returns-2 c =
     let a = c .before .before .before .before .args in
-    number-refused (a .buffer .now) (a .number) (a .shift) (a .places) (c .before .if1 .left) (sym (limit (c .before .before)) ∙ not-true (c .before .before .fits-total .result) (c .if2 .taken))
+    number-refused (a .buffer .now) (a .number) (a .shift) (a .places) (c .before .if1 .left) (sym (limit (c .before .before)) ∙ c .if2 .taken)
 
 magnitude-requires : tie.Need-magnitude-requires
 magnitude-requires c κs = search needs
@@ -45,11 +43,8 @@ magnitude-requires c κs = search needs
 rounded-requires : tie.Need-rounded-requires
 rounded-requires c κs =
     let a = c .before .before .before .before .before .args in
-    let r = or-split (ltb 9 (a .places)) (ltb 31 (a .shift)) (c .before .before .if1 .left) in (
-      omega (arith, size c, within-true greatestTotal (a .number) (inside (c .before))),
-      ltb-false 31 (a .shift) (r .1),
-      ltb-false 9 (a .places) (r .0),
-    )
+    let r = in-range-back (a .shift) (a .places) (c .before .before .if1 .left) in
+    (omega (arith, size c, within-limit-back (a .number) (inside (c .before))), r .1, r .0)
 
 print-size-requires : tie.Need-print-size-requires
 print-size-requires c κs = search needs

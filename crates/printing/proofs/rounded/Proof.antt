@@ -15,6 +15,14 @@ unit c = rw (c .before .power-of-two .ensures) (unit-range (c .before .before .a
 scale : (c : tie.After-power-of-ten) → (0 < c .power-of-ten .result) × (c .power-of-ten .result ≤ 10 ^ 9)
 scale c = rw (c .power-of-ten .ensures) (scale-range (c .before .before .args .places) (c .before .before .pre .2))
 
+returns : tie.Need-returns
+returns c =
+    let size = c .before .before .before .args .size in
+    let two = c .before .before .power-of-two .result in
+    let ten = c .before .power-of-ten .result in
+    rw (← c .before .power-of-ten .ensures, ← c .before .before .power-of-two .ensures, c .nearest .ensures)
+    (sym (whole-part size two ten (unit (c .before) .0) (scale (c .before) .0)), sym (fraction-part size two ten (unit (c .before) .0) (scale (c .before) .0)))
+
 small : (c : tie.After-power-of-ten) → c .before .before .args .size % (c .before .power-of-two .result * 2) * c .power-of-ten .result < 2 ^ 62
 small c = rest-small (c .before .before .args .size) (c .before .power-of-two .result) (c .power-of-ten .result) (unit c .0) (unit c .1) (scale c .1)
 
@@ -27,8 +35,8 @@ power-of-ten-requires c κs = search needs
 mul-pair : tie.Need-mul-pair
 mul-pair c = omega (arith, unit c .1)
 
-rem-nearest : tie.Need-rem-nearest
-rem-nearest c = omega (arith, unit c .0)
+rem-rest : tie.Need-rem-rest
+rem-rest c = omega (arith, unit c .0)
 
 mul-nearest : tie.Need-mul-nearest
 mul-nearest c = omega (arith, small c)
@@ -59,14 +67,6 @@ add-whole c = omega (arith, halved c, last-small c, div-le-self (c .nearest .res
 rem-fraction : tie.Need-rem-fraction
 rem-fraction c = scale (c .before) .0
 
-returns : tie.Need-returns
-returns c =
-    let size = c .before .before .before .args .size in
-    let two = c .before .before .power-of-two .result in
-    let ten = c .before .power-of-ten .result in
-    rw (← c .before .power-of-ten .ensures, ← c .before .before .power-of-two .ensures, c .nearest .ensures)
-    (sym (whole-part size two ten (unit (c .before) .0) (scale (c .before) .0)), sym (fraction-part size two ten (unit (c .before) .0) (scale (c .before) .0)))
-
 pub rounded-spec : {M : Type 1} → statement M
 rounded-spec =
     tie.close
@@ -74,7 +74,7 @@ rounded-spec =
     power-of-two-requires
     power-of-ten-requires
     mul-pair
-    rem-nearest
+    rem-rest
     mul-nearest
     nearest-requires
     div-whole
