@@ -38,20 +38,20 @@ in-range-back shift places e =
     let t = or-split (ltb 9 places) (ltb 31 shift) e in
     (ltb-false 9 places (t .0), ltb-false 31 shift (t .1))
 
-pub beyond-limit : (n : ℤ) → 2 ^ 53 < natAbs n → beyond n ≡ true
-beyond-limit n h = ap not (lt-leb (natAbs n) (2 ^ 53) h)
-
 pub within-limit : (n : ℤ) → natAbs n ≤ 2 ^ 53 → beyond n ≡ false
 within-limit n h = ap not (le-leb (natAbs n) (2 ^ 53) h)
+
+pub beyond-limit : (n : ℤ) → 2 ^ 53 < natAbs n → beyond n ≡ true
+beyond-limit n h = ap not (lt-leb (natAbs n) (2 ^ 53) h)
 
 pub within-limit-back : (n : ℤ) → beyond n ≡ false → natAbs n ≤ 2 ^ 53
 within-limit-back n e = leb-true (natAbs n) (2 ^ 53) (not-false (leb (natAbs n) (2 ^ 53)) e)
 
-pub room-missing : (room : ℕ) (text : List ℕ) → room < length text → shorter room text ≡ true
-room-missing room text h = lt-ltb room (length text) h
-
 pub room-there : (room : ℕ) (text : List ℕ) → length text ≤ room → shorter room text ≡ false
 room-there room text h = le-ltb room (length text) h
+
+pub room-missing : (room : ℕ) (text : List ℕ) → room < length text → shorter room text ≡ true
+room-missing room text h = lt-ltb room (length text) h
 
 -- ---- the answer and the buffer
 
