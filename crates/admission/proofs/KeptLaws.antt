@@ -3,7 +3,7 @@
 use mathlib.Core.Path.{_≡_, refl, sym, ap, _∙_, subst}
 use mathlib.Core.Bool.{Bool, true, false, not, _&&_, _||_}
 use mathlib.Core.List.{List, []}
-use Prim.Native.Nat.{ℕ, _+_, _≤_, _<_}
+use Prim.Native.Nat.{ℕ, _+_, _<_}
 use native.Mathlib.Numerals.{add-one}
 use native.Mathlib.Omega.{arith}
 use lib.IntN.{ℤ, pos}
@@ -28,14 +28,10 @@ use Rattle.history.specs.History.{noHistory, awaitsFirst, historyNext}
 use Rattle.history.specs.declared.History.{History}
 use Rattle.admission.specs.Admission.{axesRight}
 use Rattle.admission.specs.Admission.{isFreshDoubt, doubtRight, gyroDoubtRight, keptRightBy}
+use Rattle.admission.specs.SoundSession.{DoubtPasses}
 use Rattle.admission.proofs.AxisLaws.{EachRight, axes-at, each-axes, none-right, axes-step}
 
 -- ---- one gyro axis
-
--- its sum is at most 65,535, and it is as before any fit datagram unless the axis keeps a total and has begun
-pub record DoubtFacts (going : Bool) (q : AxisDoubt) : Type 0 where
-  pub sum : q .samples .0 ≤ 65535
-  pub idle : going ≡ false → q ≡ noDoubt
 
 unmarked-none : (q : AxisDoubt) → isFreshDoubt q ≡ true → q ≡ noDoubt
 unmarked-none q e =
@@ -45,47 +41,47 @@ unmarked-none q e =
     let same : _≡_ {A = AxisDoubt} (record { samples = samples (q .samples .0); marked = q .marked }) noDoubt = rw (n, m) in
     same
 
-doubt-facts : (going : Bool) (q : AxisDoubt) → doubtRight going q ≡ true → DoubtFacts going q
+doubt-passes : (going : Bool) (q : AxisDoubt) → doubtRight going q ≡ true → DoubtPasses going q
 unfolding doubtRight
-doubt-facts going q e =
+doubt-passes going q e =
     let p = and-split (leb (q .samples .0) 65535) (going || isFreshDoubt q) e in
     record { sum = leb-true (q .samples .0) 65535 (p .0); idle = λ f. unmarked-none q (rw f at (p .1)) }
 
-facts-doubt : (going : Bool) (q : AxisDoubt) → DoubtFacts going q → doubtRight going q ≡ true
+passes-doubt : (going : Bool) (q : AxisDoubt) → DoubtPasses going q → doubtRight going q ≡ true
 unfolding doubtRight
-facts-doubt true q h = and-true (le-leb (q .samples .0) 65535 (h .sum)) refl
-facts-doubt false q h = and-true (le-leb (q .samples .0) 65535 (h .sum)) (ap isFreshDoubt (h .idle refl))
+passes-doubt true q h = and-true (le-leb (q .samples .0) 65535 (h .sum)) refl
+passes-doubt false q h = and-true (le-leb (q .samples .0) 65535 (h .sum)) (ap isFreshDoubt (h .idle refl))
 
 -- of the gyro's axes
 module _ (kept : Bool) (g : GroupAxes) (q : GyroDoubt) where
   abbrev EachDoubt : Type 0
-  EachDoubt = (axis : ℕ) → axis < 3 → DoubtFacts (kept && axisIn g axis .begun) (doubtAt q axis)
+  EachDoubt = (axis : ℕ) → axis < 3 → DoubtPasses (kept && axisIn g axis .begun) (doubtAt q axis)
 
   doubt-at : gyroDoubtRight kept g q ≡ true → EachDoubt
   unfolding gyroDoubtRight
   doubt-at e =
       let p = and-split (doubtRight (kept && g .x .begun) (q .x)) _ e in
       let r = and-split (doubtRight (kept && g .y .begun) (q .y)) _ (p .1) in
-      each (λ axis. DoubtFacts (kept && axisIn g axis .begun) (doubtAt q axis)) (doubt-facts (kept && g .x .begun) (q .x) (p .0))
-      (doubt-facts (kept && g .y .begun) (q .y) (r .0)) (doubt-facts (kept && g .z .begun) (q .z) (r .1))
+      each (λ axis. DoubtPasses (kept && axisIn g axis .begun) (doubtAt q axis)) (doubt-passes (kept && g .x .begun) (q .x) (p .0))
+      (doubt-passes (kept && g .y .begun) (q .y) (r .0)) (doubt-passes (kept && g .z .begun) (q .z) (r .1))
 
   each-doubt : EachDoubt → gyroDoubtRight kept g q ≡ true
   unfolding gyroDoubtRight
   each-doubt h =
-      and-true (facts-doubt (kept && g .x .begun) (q .x) (h 0 (omega arith)))
-      (and-true (facts-doubt (kept && g .y .begun) (q .y) (h 1 (omega arith))) (facts-doubt (kept && g .z .begun) (q .z) (h 2 (omega arith))))
+      and-true (passes-doubt (kept && g .x .begun) (q .x) (h 0 (omega arith)))
+      (and-true (passes-doubt (kept && g .y .begun) (q .y) (h 1 (omega arith))) (passes-doubt (kept && g .z .begun) (q .z) (h 2 (omega arith))))
 
 none-doubt : (kept : Bool) (g : GroupAxes) → gyroDoubtRight kept g noGyroDoubt ≡ true
 none-doubt kept g =
     each-doubt kept g noGyroDoubt
-    (λ axis k. subst (DoubtFacts (kept && axisIn g axis .begun)) (sym (no-doubt-at axis k)) (record { sum = omega arith; idle = λ e. refl }))
+    (λ axis k. subst (DoubtPasses (kept && axisIn g axis .begun)) (sym (no-doubt-at axis k)) (record { sum = omega arith; idle = λ e. refl }))
 
 -- a datagram's step
-doubt-step : (rate : ℕ) (kept : Bool) (a : Axis) (s : Sighting) (q : AxisDoubt) (d : Samples) → DoubtFacts (kept && a .begun) q
-    → DoubtFacts (kept && keptStep kept a s .begun) (keptDoubt rate kept (a .begun) (s .fit) q d)
-doubt-step rate false a s q d h = subst (DoubtFacts false) (sym (unkept-doubt rate false (a .begun) (s .fit) q d refl)) h
+doubt-step : (rate : ℕ) (kept : Bool) (a : Axis) (s : Sighting) (q : AxisDoubt) (d : Samples) → DoubtPasses (kept && a .begun) q
+    → DoubtPasses (kept && keptStep kept a s .begun) (keptDoubt rate kept (a .begun) (s .fit) q d)
+doubt-step rate false a s q d h = subst (DoubtPasses false) (sym (unkept-doubt rate false (a .begun) (s .fit) q d refl)) h
 doubt-step rate true a s q d h =
-    subst (DoubtFacts (keptStep true a s .begun)) (sym (kept-doubt rate true (a .begun) (s .fit) q d refl))
+    subst (DoubtPasses (keptStep true a s .begun)) (sym (kept-doubt rate true (a .begun) (s .fit) q d refl))
     (record {
       sum = step-most rate (a .begun) (s .fit) q d (h .sum);
       idle =
@@ -141,7 +137,7 @@ kept-step rate kept first h readings statuses counter r e =
     let s = seen readings statuses 0 axis in
     let d = added first (h .previous) counter in
     let q = doubt-step rate (getD kept 0 false) a s (doubtAt (h .doubt) axis) d (doubt-at (getD kept 0 false) (h .axes .gyro) (h .doubt) (p .1) axis k) in
-    subst (DoubtFacts (getD kept 0 false && axisAt (stepped kept (h .axes) readings statuses) 0 axis .begun))
+    subst (DoubtPasses (getD kept 0 false && axisAt (stepped kept (h .axes) readings statuses) 0 axis .begun))
     (sym (gyro-step-at rate (getD kept 0 false) (h .axes .gyro) (h .doubt) (getD statuses 0 0) d axis k))
-    (subst (λ (x : Axis). DoubtFacts (getD kept 0 false && x .begun) (keptDoubt rate (getD kept 0 false) (a .begun) (s .fit) (doubtAt (h .doubt) axis) d))
+    (subst (λ (x : Axis). DoubtPasses (getD kept 0 false && x .begun) (keptDoubt rate (getD kept 0 false) (a .begun) (s .fit) (doubtAt (h .doubt) axis) d))
     (sym (step-at kept (h .axes) readings statuses 0 axis (omega arith) k)) q)))

@@ -17,14 +17,13 @@ use Rattle.motion.specs.Totals.{keeps, groupsKept, axisAt}
 use Rattle.motion.specs.declared.Axis.{Axis}
 use Rattle.motion.proofs.NineAxes.{kept-at}
 use Rattle.doubt.specs.Doubt.{doubtAt}
-use Rattle.doubt.specs.declared.AxisDoubt.{AxisDoubt}
 use Rattle.history.specs.History.{awaitsFirst}
 use Rattle.session.specs.declared.Session.{Session}
 use Rattle.admission.specs.Admission.{allZero, isSound}
 use Rattle.admission.specs.SoundSession.{AxisPasses, DoubtPasses, PassesTen}
 use Rattle.admission.proofs.Soundness.{Facts, sound-facts, facts-sound, held-rule}
 use Rattle.admission.proofs.AxisLaws.{AxisFacts}
-use Rattle.admission.proofs.KeptLaws.{DoubtFacts, kept-axes, kept-doubts, each-kept}
+use Rattle.admission.proofs.KeptLaws.{kept-axes, kept-doubts, each-kept}
 
 -- ---- the rule for held bytes
 
@@ -63,14 +62,6 @@ module _ (kept first : Bool) (n : ℕ) (a : Axis) where
   passes-axis : AxisPasses kept first n a → AxisFacts kept first n a
   passes-axis p = record { total = p .total; last = inReading-true (a .last) (p .last); idle = p .idle; start = p .start }
 
--- and what is kept of a gyro axis beside its total
-module _ (going : Bool) (q : AxisDoubt) where
-  doubt-passes : DoubtFacts going q → DoubtPasses going q
-  doubt-passes f = record { sum = f .sum; idle = f .idle }
-
-  passes-doubt : DoubtPasses going q → DoubtFacts going q
-  passes-doubt p = record { sum = p .sum; idle = p .idle }
-
 -- ---- the session
 
 module _ (s : Session) where
@@ -100,9 +91,8 @@ module _ (s : Session) where
             (subst (λ (b : Bool). AxisFacts b (awaitsFirst h) n (axisAt a group axis)) (kept-at u group g) (kept-axes (groupsKept u) h (f .kept) group axis g k));
         doubt =
             λ axis k.
-            doubt-passes (keeps u 0 && axisAt a 0 axis .begun) (doubtAt (h .doubt) axis)
-            (subst (λ (b : Bool). DoubtFacts (b && axisAt a 0 axis .begun) (doubtAt (h .doubt) axis)) (kept-at u 0 (omega arith))
-            (kept-doubts (groupsKept u) h (f .kept) axis k));
+            subst (λ (b : Bool). DoubtPasses (b && axisAt a 0 axis .begun) (doubtAt (h .doubt) axis)) (kept-at u 0 (omega arith))
+            (kept-doubts (groupsKept u) h (f .kept) axis k);
       }
 
   ten-facts : PassesTen s → Facts s
@@ -128,8 +118,8 @@ module _ (s : Session) where
             subst (λ (b : Bool). AxisFacts b (awaitsFirst h) n (axisAt a group axis)) (sym (kept-at u group g))
             (passes-axis (keeps u group) (awaitsFirst h) n (axisAt a group axis) (p .axes group axis g k)))
             (λ axis k.
-            subst (λ (b : Bool). DoubtFacts (b && axisAt a 0 axis .begun) (doubtAt (h .doubt) axis)) (sym (kept-at u 0 (omega arith)))
-            (passes-doubt (keeps u 0 && axisAt a 0 axis .begun) (doubtAt (h .doubt) axis) (p .doubt axis k)));
+            subst (λ (b : Bool). DoubtPasses (b && axisAt a 0 axis .begun) (doubtAt (h .doubt) axis)) (sym (kept-at u 0 (omega arith)))
+            (p .doubt axis k));
       }
 
   -- a session that the test passes has every clause, and one that has every clause passes

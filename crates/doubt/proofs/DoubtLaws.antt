@@ -4,9 +4,9 @@ use mathlib.Core.Bool.{Bool, true, false, _||_}
 use mathlib.Core.Logic.{_⊎_, inl, inr}
 use mathlib.Core.Path.{_≡_, refl, ap, _∙_}
 use native.Mathlib.Omega.{arith}
-use borrow.Author.Tests.{lt-ltb, le-ltb, ltb-true, ltb-false, eqb-true, eqb-false, ne-eqb}
+use borrow.Author.Tests.{lt-ltb, le-ltb, ltb-true, ltb-false, eqb-true, ne-eqb}
 use lib.Dec.{eqb, ltb}
-use Rattle.integers.proofs.Booleans.{or-true, or-split}
+use Rattle.integers.proofs.Booleans.{or-true, or-none, or-split}
 use Rattle.setup.proofs.Refusals.{each}
 use Rattle.gaps.specs.Gaps.{samples, elapsed}
 use Rattle.gaps.specs.declared.Samples.{Samples}
@@ -57,12 +57,10 @@ pub trigger-marks : (s : Samples) → marks 0 s ≡ true
 unfolding marks
 trigger-marks s = or-true (ltb mostSamples (s .0)) refl
 
--- else the sum is at most 16 and the rate another
-pub near-unmarked : (rate : ℕ) (s : Samples) → marks rate s ≡ false → (s .0 ≤ 16) × (rate ≡ 0 → ⊥)
+-- else the sum is at most 16
+pub near-unmarked : (rate : ℕ) (s : Samples) → marks rate s ≡ false → s .0 ≤ 16
 unfolding marks
-near-unmarked rate s e =
-    let p = or-split (ltb mostSamples (s .0)) (eqb rate 0) e in
-    (omega (arith, ltb-false mostSamples (s .0) (p .0)), eqb-false rate 0 (p .1))
+near-unmarked rate s e = omega (arith, ltb-false mostSamples (s .0) (or-split (ltb mostSamples (s .0)) (eqb rate 0) e .0))
 
 pub marked-why : (rate : ℕ) (s : Samples) → marks rate s ≡ true → (16 < s .0) ⊎ (rate ≡ 0)
 unfolding marks
@@ -125,10 +123,6 @@ sum-near s d h = omega arith
 
 near-keeps : (rate : ℕ) (a : AxisDoubt) (d : Samples) → 0 < rate → a .samples .0 + d .0 ≤ 16 → doubtStep rate true true a d .marked ≡ a .marked
 near-keeps rate a d h k = fit-mark rate a d false (unmarked-near rate (sumWith (a .samples) d) (sum-near (a .samples) d k) h) ∙ or-none (a .marked)
-  where
-    or-none : (b : Bool) → (b || false) ≡ b
-    or-none true = refl
-    or-none false = refl
 
 pub doubt-rules : DoubtRules
 unfolding doubtStep fitDoubt unfitDoubt sumWith gyroStep keptDoubt marks marksOf unfit

@@ -22,8 +22,8 @@ doubtAfter rate begun first previous a (d ∷ ds) =
     (doubtStep rate begun (d .sighting .fit) a (added first previous (d .counter))) ds
 
 -- an axis with so many samples since its last fit datagram
-abbrev pub at : ℕ → Bool → AxisDoubt
-at n marked = record { samples = samples (min n greatestSum); marked = marked }
+abbrev pub withSum : ℕ → Bool → AxisDoubt
+withSum n marked = record { samples = samples (min n greatestSum); marked = marked }
 
 -- ---- one more datagram
 
@@ -31,21 +31,21 @@ module _ (rate : ℕ) (d : Counted) (ds : List Counted) where
   -- a fit one on an axis that has begun, and on one that hasn't
   pub after-fit : (p n : ℕ) (m : Bool) → d .sighting .fit ≡ true →
       let e = elapsed p (d .counter) .0 in
-      doubtAfter rate true false p (at n m) (d ∷ ds)
-      ≡ doubtAfter rate true false (d .counter) (at 0 (m || marks rate (samples (min (n + e) greatestSum)))) ds
+      doubtAfter rate true false p (withSum n m) (d ∷ ds)
+      ≡ doubtAfter rate true false (d .counter) (withSum 0 (m || marks rate (samples (min (n + e) greatestSum)))) ds
   unfolding doubtAfter doubtStep fitDoubt
   after-fit p n m f =
       rw (f, later-adds p (d .counter))
-      (ap (λ (s : Samples). doubtAfter rate true false (d .counter) (at 0 (m || marks rate s)) ds) (stopped-once n (elapsed p (d .counter) .0)))
+      (ap (λ (s : Samples). doubtAfter rate true false (d .counter) (withSum 0 (m || marks rate s)) ds) (stopped-once n (elapsed p (d .counter) .0)))
 
   pub after-first : (first : Bool) (p : ℕ) → d .sighting .fit ≡ true
-      → doubtAfter rate false first p noDoubt (d ∷ ds) ≡ doubtAfter rate true false (d .counter) (at 0 false) ds
+      → doubtAfter rate false first p noDoubt (d ∷ ds) ≡ doubtAfter rate true false (d .counter) (withSum 0 false) ds
   unfolding doubtAfter
   after-first first p f = rw (f, idle-step rate true (added first p (d .counter)))
 
   -- an unfit one
   pub after-unfit : (p n : ℕ) (m : Bool) → d .sighting .fit ≡ false
-      → doubtAfter rate true false p (at n m) (d ∷ ds) ≡ doubtAfter rate true false (d .counter) (at (n + elapsed p (d .counter) .0) m) ds
+      → doubtAfter rate true false p (withSum n m) (d ∷ ds) ≡ doubtAfter rate true false (d .counter) (withSum (n + elapsed p (d .counter) .0) m) ds
   unfolding doubtAfter doubtStep unfitDoubt
   after-unfit p n m f =
       rw (f, later-adds p (d .counter))
@@ -85,7 +85,7 @@ marks-far rate n (inr e) = rw e (trigger-marks (samples (min n greatestSum)))
 
 reached-marked : (rate : ℕ) (between : List Counted) (later : Counted) (behind : List Counted) (n p : ℕ) (m : Bool)
     → AllUnfit between → later .sighting .fit ≡ true → Doubtful rate (n + samplesOver p (between ++ (later ∷ [])))
-    → doubtAfter rate true false p (at n m) (between ++ (later ∷ behind)) .marked ≡ true
+    → doubtAfter rate true false p (withSum n m) (between ++ (later ∷ behind)) .marked ≡ true
 unfolding samplesOver AllUnfit
 reached-marked rate [] later behind n p m a f h =
     let e = elapsed p (later .counter) .0 in
@@ -98,7 +98,7 @@ reached-marked rate (d ∷ between) later behind n p m a f h =
 
 -- a fit one begins the sum anew, whatever the axis kept
 after-any : (rate : ℕ) (d : Counted) (ds : List Counted) (begun first : Bool) (p : ℕ) (a : AxisDoubt) → d .sighting .fit ≡ true
-    → (m : Bool) × (doubtAfter rate begun first p a (d ∷ ds) ≡ doubtAfter rate true false (d .counter) (at 0 m) ds)
+    → (m : Bool) × (doubtAfter rate begun first p a (d ∷ ds) ≡ doubtAfter rate true false (d .counter) (withSum 0 m) ds)
 unfolding doubtAfter doubtStep fitDoubt
 after-any rate d ds begun first p a f = (
   a .marked || (begun && marks rate (sumWith (a .samples) (added first p (d .counter)))),
@@ -189,20 +189,21 @@ module _ (rate n p : ℕ) (d : Counted) (ds : List Counted) where
   why-unfit m f (inr (inl r)) = inr (inl (reach-later rate n p d f r))
   why-unfit m f (inr (inr s)) = inr (inr (slip-later d s))
 
-marked-from : (rate : ℕ) (ds : List Counted) (n p : ℕ) (m : Bool) → doubtAfter rate true false p (at n m) ds .marked ≡ true → Why rate m n p ds
+marked-from : (rate : ℕ) (ds : List Counted) (n p : ℕ) (m : Bool) → doubtAfter rate true false p (withSum n m) ds .marked ≡ true → Why rate m n p ds
 unfolding doubtAfter
 marked-from rate [] n p m e = inl e
 marked-from rate (d ∷ ds) n p m e = by (d .sighting .fit) refl (λ n′ p′ m′ x. marked-from rate ds n′ p′ m′ x)
   where
     by : (b : Bool) → d .sighting .fit ≡ b
-        → ((n′ p′ : ℕ) (m′ : Bool) → doubtAfter rate true false p′ (at n′ m′) ds .marked ≡ true → Why rate m′ n′ p′ ds) → Why rate m n p (d ∷ ds)
+        → ((n′ p′ : ℕ) (m′ : Bool) → doubtAfter rate true false p′ (withSum n′ m′) ds .marked ≡ true → Why rate m′ n′ p′ ds) → Why rate m n p (d ∷ ds)
     by true f r = why-fit rate n p d ds m f (r _ _ _ (ap (λ (x : AxisDoubt). x .marked) (sym (after-fit rate d ds p n m f)) ∙ e))
     by false f r = why-unfit rate n p d ds m f (r _ _ _ (ap (λ (x : AxisDoubt). x .marked) (sym (after-unfit rate d ds p n m f)) ∙ e))
 
-marked-idle : (rate : ℕ) (ds : List Counted) (first : Bool) (p : ℕ) → doubtAfter rate false first p noDoubt ds .marked ≡ true → MaySlip rate ds
+-- From an axis that hasn't begun: its total is marked after datagrams exactly if it may have slipped among them, whatever the sums that were kept
+pub marked-slipped : (rate : ℕ) (ds : List Counted) (first : Bool) (p : ℕ) → doubtAfter rate false first p noDoubt ds .marked ≡ true → MaySlip rate ds
 unfolding doubtAfter
-marked-idle rate [] first p e = let z : _≡_ {A = ℕ} 0 1 = cc in absurd (omega arith)
-marked-idle rate (d ∷ ds) first p e = by (d .sighting .fit) refl (λ x. marked-idle rate ds false (d .counter) x)
+marked-slipped rate [] first p e = let z : _≡_ {A = ℕ} 0 1 = cc in absurd (omega arith)
+marked-slipped rate (d ∷ ds) first p e = by (d .sighting .fit) refl (λ x. marked-slipped rate ds false (d .counter) x)
   where
     begun : d .sighting .fit ≡ true → Why rate false 0 (d .counter) ds → MaySlip rate (d ∷ ds)
     begun f (inl x) = let z : _≡_ {A = ℕ} 0 1 = cc in absurd (omega arith)
@@ -213,10 +214,6 @@ marked-idle rate (d ∷ ds) first p e = by (d .sighting .fit) refl (λ x. marked
     by true f r = begun f (marked-from rate ds 0 (d .counter) false (ap (λ (x : AxisDoubt). x .marked) (sym (after-first rate d ds first p f)) ∙ e))
     by false f r = slip-later d (r (ap (λ (x : AxisDoubt). x .marked) (sym (after-idle rate d ds first p f)) ∙ e))
 
--- From an axis that hasn't begun: its total is marked after datagrams exactly if it may have slipped among them, whatever the sums that were kept
-pub marked-slipped : (rate : ℕ) (ds : List Counted) (first : Bool) (p : ℕ) → doubtAfter rate false first p noDoubt ds .marked ≡ true → MaySlip rate ds
-marked-slipped rate ds first p e = marked-idle rate ds first p e
-
 pub slipped-marks : (rate : ℕ) (ds : List Counted) (first : Bool) (p : ℕ) → MaySlip rate ds → doubtAfter rate false first p noDoubt ds .marked ≡ true
 slipped-marks rate ds first p s =
     ap (λ (l : List Counted). doubtAfter rate false first p noDoubt l .marked) (s .parts)
@@ -225,7 +222,7 @@ slipped-marks rate ds first p s =
 -- ---- the sum that is kept: the d's since the last fit one, stopping at 65,535
 
 unfit-sum : (rate : ℕ) (ds : List Counted) (n p : ℕ) (m : Bool) → AllUnfit ds
-    → doubtAfter rate true false p (at n m) ds .samples .0 ≡ min (n + samplesOver p ds) greatestSum
+    → doubtAfter rate true false p (withSum n m) ds .samples .0 ≡ min (n + samplesOver p ds) greatestSum
 unfolding doubtAfter samplesOver AllUnfit
 unfit-sum rate [] n p m u = omega arith
 unfit-sum rate (d ∷ ds) n p m u =

@@ -22,7 +22,7 @@ use Rattle.doubt.specs.declared.AxisDoubt.{AxisDoubt}
 use Rattle.doubt.specs.Doubt.{greatestSum, marks, noDoubt}
 use Rattle.doubt.specs.Slipped.{Counted, none, greatestTurn, Turn, TrueAngles, SampledTurn, SampledAngles, FirstFit}
 use Rattle.doubt.proofs.DoubtLaws.{near-unmarked}
-use Rattle.doubt.proofs.Sums.{doubtAfter, at, after-fit, after-first, after-unfit, after-idle, stays-marked}
+use Rattle.doubt.proofs.Sums.{doubtAfter, withSum, after-fit, after-first, after-unfit, after-idle, stays-marked}
 
 -- ---- sums of at most 16 samples are close
 
@@ -49,7 +49,7 @@ close-in fine n t u h k g = omega (arith, mul-le-mul-right (50331648 * fine) k)
 
 module _ (rate fine : ℕ) (h : 0 < fine) where
   marked-after : ℕ → ℕ → Bool → List Counted → Bool
-  marked-after n p m ds = doubtAfter rate true false p (at n m) ds .marked
+  marked-after n p m ds = doubtAfter rate true false p (withSum n m) ds .marked
 
   -- a total that isn't marked after a fit datagram had at most 16 samples there
   few-there : (d : Counted) (ds : List Counted) (n p : ℕ) → d .sighting .fit ≡ true → marked-after n p false (d ∷ ds) ≡ false
@@ -60,12 +60,12 @@ module _ (rate fine : ℕ) (h : 0 < fine) where
       (ap (λ (a : AxisDoubt). a .marked) (sym (after-fit rate d ds p n false f)) ∙ e)
     where
       by : (k : ℕ) (b : Bool) → marks rate (samples (min k greatestSum)) ≡ b
-          → doubtAfter rate true false (d .counter) (at 0 (marks rate (samples (min k greatestSum)))) ds .marked ≡ false
-          → (k ≤ 16) × (doubtAfter rate true false (d .counter) (at 0 false) ds .marked ≡ false)
+          → doubtAfter rate true false (d .counter) (withSum 0 (marks rate (samples (min k greatestSum)))) ds .marked ≡ false
+          → (k ≤ 16) × (doubtAfter rate true false (d .counter) (withSum 0 false) ds .marked ≡ false)
       by k true q x =
-          let s = stays-marked rate true false (d .counter) (at 0 (marks rate (samples (min k greatestSum)))) ds q in
+          let s = stays-marked rate true false (d .counter) (withSum 0 (marks rate (samples (min k greatestSum)))) ds q in
           absurd (let z : _≡_ {A = ℕ} 0 1 = cc in omega arith)
-      by k false q x = (omega (arith, near-unmarked rate (samples (min k greatestSum)) q .0), rw q at x)
+      by k false q x = (omega (arith, near-unmarked rate (samples (min k greatestSum)) q), rw q at x)
 
   close-from :
       (ds : List Counted) (ts : List ℤ) (n p : ℕ) (t w : ℤ) → TurnsFrom fine p w ds ts → 100 * natAbs (w -ℤ t) ≤ n * (greatestTurn * fine)

@@ -25,6 +25,10 @@ pub or-true : (s : Bool) {t : Bool} → t ≡ true → (s || t) ≡ true
 or-true true e = refl
 or-true false e = e
 
+pub or-none : (s : Bool) → (s || false) ≡ s
+or-none true = refl
+or-none false = refl
+
 -- one of three tests, by its place, and none of them
 pub three-any : (f : ℕ → Bool) (k : ℕ) → k < 3 → f k ≡ true → (f 0 || f 1 || f 2) ≡ true
 three-any f zero h e = rw e

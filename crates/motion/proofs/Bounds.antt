@@ -8,7 +8,7 @@ use native.Mathlib.Omega.{arith}
 use lib.IntN.{ℤ, natAbs, _-ℤ_}
 use lib.ListN.{length, take, getD}
 use Rattle.integers.specs.Ranges.{within}
-use Rattle.integers.proofs.Booleans.{or-true}
+use Rattle.integers.proofs.Booleans.{or-true, or-none}
 use Rattle.integers.proofs.Sizes.{abs-add}
 use Rattle.integers.proofs.Ranges.{le-within}
 use Rattle.integers.proofs.Folding.{InRange, abs-of-range, fold-range}
@@ -95,11 +95,7 @@ step-within a d h = rw (le-within (2 ^ 53) (a .total) h)
 begun-by : (a : Axis) (d : Sighting) (b : Bool) → d .fit ≡ b → axisStep a d .begun ≡ (a .begun || b)
 unfolding axisStep fitStep
 begun-by a d true e = rw e (sym (or-true (a .begun) {t = true} refl))
-begun-by a d false e = rw e (unmoved (a .begun))
-  where
-    unmoved : (b : Bool) → b ≡ (b || false)
-    unmoved true = refl
-    unmoved false = refl
+begun-by a d false e = rw e (sym (or-none (a .begun)))
 
 pub begun-next : (a : Axis) (d : Sighting) → natAbs (a .total) ≤ 2 ^ 53 → keptStep true a d .begun ≡ (a .begun || d .fit)
 begun-next a d h = ap (λ (x : Axis). x .begun) (step-within a d h) ∙ begun-by a d (d .fit) refl
