@@ -1,4 +1,4 @@
--- Tests of a whole number, as the refusals make them (01, What is turned down, 10 and 13; 02, 2.1, 15).
+-- Tests of a whole number, as the refusals make them (01, What is turned down, 10 and 13; 02, 2.1, 15; 2.6, 18).
 use Prim.Native.Nat.{ℕ, _-_, _*_, _^_}
 use mathlib.Core.Bool.{Bool, _&&_}
 use lib.Dec.{eqb, leb}

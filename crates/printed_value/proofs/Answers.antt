@@ -15,12 +15,12 @@ use Rattle.setup.specs.Setup.{firstNumber, rulingNumber}
 use Rattle.setup.specs.declared.Ruling.{Ruling}
 use Rattle.setup.specs.declared.Ruling.the-variants as ruling
 use Rattle.setup.proofs.Rules.{first-number, none-accepted, some-refused, buffer-refused, number-within, no-number}
-use Rattle.printed_value.specs.PrintedValue.{valueText, outOfRange, beyond, shorter, valueRules, printedBy, printedNumber, printedBytes, valueRuling, printedAnswer, printedBuffer}
+use Rattle.printed_value.specs.PrintedValue.{valueText, outOfRange, beyond, shorter, valueRules, printedBy, printedRefusal, printedBytes, valueRuling, printedAnswer, printedBuffer}
 use Rattle.printed_value.specs.declared.Printed.{Printed}
-use Rattle.printed_value.specs.declared.Printed.the-variants.{Text, Refused}
+use Rattle.printed_value.specs.declared.Printed.the-variants.{Refused}
 
 -- the answer's number is the ruling's
-number-by : (j : Ruling) (text : List ℕ) → printedNumber (printedBy j text) ≡ rulingNumber j
+number-by : (j : Ruling) (text : List ℕ) → printedRefusal (printedBy j text) ≡ rulingNumber j
 number-by ruling.Accepted text = refl
 number-by (ruling.Refused number) text = refl
 
@@ -76,44 +76,44 @@ module _ (b : List ℕ) (n : ℤ) (shift places : ℕ) where
   number-refused r h = rw (r, h) (refl, refl)
 
   -- the same by numbers
-  pub seventeen : (9 < places) ⊎ (31 < shift) → printedNumber answer ≡ some 17
-  seventeen h = sym (ap printedNumber (places-refused (out-of-range shift places h) .0))
+  pub seventeen : (9 < places) ⊎ (31 < shift) → printedRefusal answer ≡ some 17
+  seventeen h = sym (ap printedRefusal (places-refused (out-of-range shift places h) .0))
 
   module _ (p : places ≤ 9) (s : shift ≤ 31) where
-    pub eighteen : 2 ^ 53 < natAbs n → printedNumber answer ≡ some 18
-    eighteen h = sym (ap printedNumber (number-refused (in-range shift places p s) (beyond-limit n h) .0))
+    pub eighteen : 2 ^ 53 < natAbs n → printedRefusal answer ≡ some 18
+    eighteen h = sym (ap printedRefusal (number-refused (in-range shift places p s) (beyond-limit n h) .0))
 
     -- 19 exactly for a buffer shorter than the text
     module _ (w : natAbs n ≤ 2 ^ 53) where
-      pub nineteen : length b < length text → printedNumber answer ≡ some 19
+      pub nineteen : length b < length text → printedRefusal answer ≡ some 19
       unfolding printedAnswer valueRuling valueRules
       nineteen h = rw (in-range shift places p s, within-limit n w, room-missing (length b) text h)
 
-      pub enough : length text ≤ length b → printedNumber answer ≡ none
+      pub enough : length text ≤ length b → printedRefusal answer ≡ none
       unfolding printedAnswer valueRuling valueRules
       enough h = rw (in-range shift places p s, within-limit n w, room-there (length b) text h)
 
   -- the number is that of the first rule that applies
-  pub printed-number : printedNumber answer ≡ firstNumber (valueRules n shift places (length b))
+  pub printed-number : printedRefusal answer ≡ firstNumber (valueRules n shift places (length b))
   unfolding printedAnswer valueRuling
   printed-number = number-by (valueRuling b n shift places) text ∙ first-number (valueRules n shift places (length b))
 
   -- 17 to 19 only
-  pub printed-numbers : {k : ℕ} → printedNumber answer ≡ some k → (17 ≤ k) × (k ≤ 19)
+  pub printed-numbers : {k : ℕ} → printedRefusal answer ≡ some k → (17 ≤ k) × (k ≤ 19)
   unfolding valueRules
   printed-numbers e =
       number-within 17 19 (valueRules n shift places (length b)) (omega arith, omega arith, (omega arith, omega arith, (omega arith, omega arith, tt)))
       (sym printed-number ∙ e)
 
   -- a refusal writes nothing
-  pub refused-keeps : {k : ℕ} → printedNumber answer ≡ some k → buffer ≡ b
+  pub refused-keeps : {k : ℕ} → printedRefusal answer ≡ some k → buffer ≡ b
   unfolding printedAnswer printedBuffer
   refused-keeps e =
       let j = valueRuling b n shift places in
       buffer-refused j text b (some-refused j (sym (number-by j text) ∙ e))
 
   -- a text that is printed stands there whole, every later byte is as it was, and its length comes back
-  pub printed-whole : printedNumber answer ≡ none → (length text ≤ length b) × (printedBytes answer ≡ length text) × (buffer ≡ text ++ drop (length text) b)
+  pub printed-whole : printedRefusal answer ≡ none → (length text ≤ length b) × (printedBytes answer ≡ length text) × (buffer ≡ text ++ drop (length text) b)
   unfolding printedAnswer printedBuffer valueRules
   printed-whole e =
       let j = valueRuling b n shift places in

@@ -5,11 +5,10 @@ use mathlib.Core.List.{List, [], _∷_, _++_, append-assoc, append-nil}
 use Prim.Native.Nat.{ℕ, zero, suc, _+_, _-_, _*_, _/_, _%_, _^_, _≤_, _<_}
 use native.Mathlib.Nat.{pow-suc, mul-assoc, div-one, zero-add, div-div-eq-div-mul, pow-succ'}
 use native.Mathlib.Omega.{arith}
-use borrow.Author.Tests.{leb-true}
-use lib.Dec.{leb}
 use lib.ListN.{length, length-append, getD}
 use Rattle.integers.proofs.Booleans.{and-split}
 use Rattle.setup_line.specs.SetupLine.{isDigit, digitValue, allDigits, decimalFrom, decimalValue}
+use Rattle.setup_line.proofs.Digits.{digit-range}
 use Rattle.shown_line.specs.Decimal.{digits}
 use Rattle.shown_line.proofs.Digits.{digits-small, digits-large, digits-ind, digit-is, digit-value, value-append, all-append}
 use Rattle.printed_value.specs.PrintedValue.{lastDigits}
@@ -44,7 +43,7 @@ last-whole =
     digits-ind (λ n ds. lastDigits (length ds) n ≡ ds) (λ n h. let e : n % 10 ≡ n = omega arith in rw e)
     (λ n ds h e. let s : length (ds ++ (0x30 + n % 10) ∷ []) ≡ suc (length ds) = length-append ds ((0x30 + n % 10) ∷ []) ∙ omega arith in rw (s, e))
 
--- what stands before the last k digits doesn't show in them
+-- the last k digits don't depend on what stands before them
 pub last-behind : (k c m : ℕ) → lastDigits k (c * 10 ^ k + m) ≡ lastDigits k m
 unfolding lastDigits
 last-behind zero c m = refl
@@ -70,11 +69,7 @@ last-value (suc k) m =
 
 -- a byte that is a digit, by its value
 digit-byte : (x : ℕ) → isDigit x ≡ true → (0x30 + digitValue x ≡ x) × (digitValue x < 10)
-digit-byte x e =
-    let t = and-split (leb 0x30 x) (leb x 0x39) e in
-    let l = leb-true 0x30 x (t .0) in
-    let u = leb-true x 0x39 (t .1) in
-    rw e (omega arith, omega arith)
+digit-byte x e = let r = digit-range x e in rw e (omega arith, omega arith)
 
 -- one more digit, x, behind those of a number above 0
 one-more : (v d x : ℕ) → 1 ≤ v → d < 10 → 0x30 + d ≡ x → digits (v * 10 + d) ≡ digits v ++ x ∷ []

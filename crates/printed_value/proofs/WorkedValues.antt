@@ -6,7 +6,7 @@ use native.Mathlib.Omega.{arith}
 use Rattle.setup_line.specs.SetupLine.{allDigits, decimalFrom}
 use Rattle.shown_line.specs.Decimal.{digits}
 use Rattle.shown_line.proofs.Digits.{digits-small, digits-two}
-use Rattle.printed_value.specs.PrintedValue.{nearestEven, lastPlaces, lastDigits, behindWhole, placedText, signedText, valueText}
+use Rattle.printed_value.specs.PrintedValue.{nearestEven, inLastPlaces, lastDigits, behindWhole, placedText, signedText, valueText}
 use Rattle.printed_value.specs.WorkedValues.{WorkedValues}
 use Rattle.printed_value.proofs.LastDigits.{digits-back}
 
@@ -19,7 +19,7 @@ unfolding allDigits decimalFrom
 greatest-digits = digits-back greatest refl (omega arith) (λ e. absurd (omega arith))
 
 pub worked-values : WorkedValues
-unfolding valueText signedText placedText behindWhole lastDigits lastPlaces nearestEven
+unfolding valueText signedText placedText behindWhole lastDigits inLastPlaces nearestEven
 worked-values =
     record {
       half = rw (digits-small 0 (omega arith));

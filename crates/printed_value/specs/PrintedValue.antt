@@ -23,9 +23,9 @@ unfoldable pub nearestEven : ℕ → ℕ → ℕ
 nearestEven a b = cond (ltb b (a % b * 2) || (eqb (a % b * 2) b && eqb (a / b % 2) 1)) (a / b + 1) (a / b)
 
 -- n / 2^shift in units of 10^-places so rounded, which is the same for n and -n but for the sign
-unfoldable pub lastPlaces : ℤ → ℕ → ℕ → ℤ
-lastPlaces (pos n) shift places = pos (nearestEven (n * 10 ^ places) (2 ^ shift))
-lastPlaces (negsuc n) shift places = negℤ (pos (nearestEven (suc n * 10 ^ places) (2 ^ shift)))
+unfoldable pub inLastPlaces : ℤ → ℕ → ℕ → ℤ
+inLastPlaces (pos n) shift places = pos (nearestEven (n * 10 ^ places) (2 ^ shift))
+inLastPlaces (negsuc n) shift places = negℤ (pos (nearestEven (suc n * 10 ^ places) (2 ^ shift)))
 
 -- ---- the text
 
@@ -49,7 +49,7 @@ signedText places (pos m) = placedText places m
 signedText places (negsuc m) = 0x2D ∷ placedText places (suc m)
 
 unfoldable pub valueText : ℤ → ℕ → ℕ → List ℕ
-valueText n shift places = signedText places (lastPlaces n shift places)
+valueText n shift places = signedText places (inLastPlaces n shift places)
 
 -- ---- what is turned down
 
@@ -65,9 +65,11 @@ beyond n = not (within greatestTotal n)
 abbrev pub shorter : ℕ → List ℕ → Bool
 shorter room text = ltb room (length text)
 
+abbrev pub roomRules : List ℕ → ℕ → List Rule
+roomRules text room = rule 19 (shorter room text) ∷ []
+
 unfoldable pub valueRules : ℤ → ℕ → ℕ → ℕ → List Rule
-valueRules n shift places room =
-    rule 17 (outOfRange shift places) ∷ rule 18 (beyond n) ∷ rule 19 (shorter room (valueText n shift places)) ∷ []
+valueRules n shift places room = rule 17 (outOfRange shift places) ∷ rule 18 (beyond n) ∷ roomRules (valueText n shift places) room
 
 -- ---- the answer and the buffer
 
@@ -77,9 +79,9 @@ printedBy ruling.the-variants.Accepted text = Text (length text)
 printedBy (ruling.the-variants.Refused number) text = Refused number
 
 -- what each case of it stands for: the number that refused, and how many bytes were written
-abbrev pub printedNumber : Printed → Option ℕ
-printedNumber (Text n) = none
-printedNumber (Refused number) = some number
+abbrev pub printedRefusal : Printed → Option ℕ
+printedRefusal (Text n) = none
+printedRefusal (Refused number) = some number
 
 abbrev pub printedBytes : Printed → ℕ
 printedBytes (Text n) = n

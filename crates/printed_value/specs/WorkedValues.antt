@@ -6,7 +6,7 @@ use lib.ListN.{length}
 use Rattle.printed_value.specs.PrintedValue.{valueText, longestValue}
 
 pub record WorkedValues : Type 0 where
-  -- halves with 0 places: 0.5 and 2.5 are below the odd number and above the even one, 1.5 the other way; below 0 the same
+  -- halves with 0 places: 0.5 and 2.5 go down to the even number, 1.5 up to it; below 0 the same in size
   pub half : valueText (pos 1) 1 0 ≡ 0x30 ∷ []
   pub one-and-a-half : valueText (pos 3) 1 0 ≡ 0x32 ∷ []
   pub two-and-a-half : valueText (pos 5) 1 0 ≡ 0x32 ∷ []

@@ -1,27 +1,28 @@
 -- The text of a value by its sign, whole part and fraction: how long it is, that it is put into a buffer part by part, and that it is the text of the value.
 use Prim.Native.Nat.{ℕ, zero, suc, _+_, _*_, _/_, _%_, _^_, _≤_, _<_}
-use mathlib.Core.Bool.{Bool, true, false, _&&_, _||_, cond}
+use mathlib.Core.Bool.{Bool, true, false, _&&_, _||_}
 use mathlib.Core.List.{List, [], _∷_, _++_}
 use mathlib.Core.Path.{_≡_, refl, sym, ap, _∙_, subst}
 use native.Mathlib.Decide.{decLt}
 use native.Mathlib.Nat.{zero-add, zero-mul, zero-div, zero-mod, one-le-pow, div-add-mod'}
 use native.Mathlib.Omega.{arith}
 use borrow.Author.Tests.{eq-eqb, ne-eqb, lt-ltb}
-use lib.Dec.{eqb, ltb}
-use lib.IntN.{ℤ, pos, natAbs}
+use lib.Dec.{ltb}
+use lib.IntN.{ℤ, pos}
 use lib.ListN.{length, length-append}
 use lib.Signed.{ltZ}
 use Rattle.integers.specs.Buffers.{Put}
 use Rattle.integers.proofs.Booleans.{or-true}
 use Rattle.integers.proofs.Buffers.{put-front, put-length, then-put}
 use Rattle.shown_line.specs.Decimal.{digits}
-use Rattle.printed_value.specs.PrintedValue.{nearestEven, lastDigits, behindWhole, placedText, valueText, outOfRange, beyond, valueRules, valueRuling, printedAnswer, printedBuffer}
+use Rattle.printed_value.specs.PrintedValue.{lastDigits, behindWhole, placedText, valueText, outOfRange, beyond, valueRules, valueRuling, printedAnswer, printedBuffer}
+use Rattle.printed_value.specs.Prints.{minusText}
 use Rattle.printed_value.specs.declared.Printed.{Printed}
 use Rattle.printed_value.specs.declared.Printed.the-variants.{Text, Refused}
 use Rattle.printed_value.proofs.Answers.{room-missing, room-there}
 use Rattle.printed_value.proofs.LastDigits.{last-whole, last-behind}
-use Rattle.printed_value.proofs.ValueLaws.{behind-by, behind-length, text-by-sign, sign-of}
-use Rattle.printing.specs.Writing.{minusText, fractionLength, textOf, roomAnswer, roomBuffer}
+use Rattle.printed_value.proofs.ValueLaws.{printedSize, behind-by, behind-length, text-by-sign, sign-of}
+use Rattle.printing.specs.Writing.{fractionLength, textOf, roomAnswer, roomBuffer}
 
 -- ---- what follows the whole part
 
@@ -31,7 +32,7 @@ behind-none places f e = behind-by places f ∙ rw (eq-eqb places 0 e)
 pub behind-some : (places f : ℕ) → (places ≡ 0 → ⊥) → behindWhole places f ≡ 0x2E ∷ lastDigits places f
 behind-some places f h = behind-by places f ∙ rw (ne-eqb places 0 h)
 
--- of a number all but the last digits is of no account
+-- only the last `places` digits of a number stand behind the point
 behind-left : (places m : ℕ) → behindWhole places m ≡ behindWhole places (m % 10 ^ places)
 behind-left zero m = behind-none 0 m refl ∙ sym (behind-none 0 (m % 10 ^ 0) refl)
 behind-left (suc k) m =
@@ -74,18 +75,6 @@ module _ (minus : Bool) (whole fraction places : ℕ) (b : List ℕ) (room : len
       unfolding textOf
       text-put third = then-put first (then-put whole-put third)
 
--- neither what stands before the whole part nor what stands behind it is long
-pub sign-length : (minus : Bool) → length (minusText minus) ≤ 1
-sign-length true = omega arith
-sign-length false = omega arith
-
-pub fraction-few : (places : ℕ) → fractionLength places ≤ places + 1
-fraction-few places = by (eqb places 0)
-  where
-    by : (none : Bool) → cond none 0 (places + 1) ≤ places + 1
-    by true = omega arith
-    by false = omega arith
-
 -- ---- where only 19 is left to refuse it
 
 module _ (b text : List ℕ) where
@@ -115,18 +104,15 @@ nonzero-parts m d h = by (decLt 0 m)
     by (no l) = let e : m ≡ 0 = omega arith in rw (e, zero-div d, zero-mod d)
 
 module _ (n : ℤ) (shift places : ℕ) where
-  abbrev printed : ℕ
-  printed = nearestEven (natAbs n * 10 ^ places) (2 ^ shift)
-
   pub value-parts :
-      {whole fraction : ℕ} → whole ≡ printed / 10 ^ places → fraction ≡ printed % 10 ^ places
+      {whole fraction : ℕ} → whole ≡ printedSize n shift places / 10 ^ places → fraction ≡ printedSize n shift places % 10 ^ places
       → textOf (ltZ n (pos 0) && (ltb 0 whole || ltb 0 fraction)) whole fraction places ≡ valueText n shift places
   unfolding textOf placedText
   value-parts e f =
-      let m = printed in
+      let m = printedSize n shift places in
       let d = 10 ^ places in
       rw (e, f, nonzero-parts m d (one-le-pow places 10 (omega arith)), ← behind-left places m)
-      (sym (text-by-sign shift places n (ltZ n (pos 0) && ltb 0 m) m (sign-of n m) refl))
+      (sym (text-by-sign shift places (sign-of n m) refl))
 
   -- what is left of the rules
   module _ (b : List ℕ) (r : outOfRange shift places ≡ false) (w : beyond n ≡ false) where

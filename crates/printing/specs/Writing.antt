@@ -2,16 +2,14 @@
 -- to refuse.
 use Prim.Native.Nat.{ℕ, _+_}
 use mathlib.Core.Bool.{Bool, cond}
-use mathlib.Core.List.{List, [], _∷_, _++_}
+use mathlib.Core.List.{List, _++_}
 use lib.Dec.{eqb}
 use lib.ListN.{length}
-use Rattle.setup.specs.Setup.{rule, firstOf, bufferBy}
+use Rattle.setup.specs.Setup.{firstOf, bufferBy}
 use Rattle.shown_line.specs.Decimal.{digits}
-use Rattle.printed_value.specs.PrintedValue.{behindWhole, shorter, printedBy}
+use Rattle.printed_value.specs.PrintedValue.{behindWhole, roomRules, printedBy}
+use Rattle.printed_value.specs.Prints.{minusText}
 use Rattle.printed_value.specs.declared.Printed.{Printed}
-
-abbrev pub minusText : Bool → List ℕ
-minusText minus = cond minus (0x2D ∷ []) []
 
 -- how many bytes stand behind the whole part
 abbrev pub fractionLength : ℕ → ℕ
@@ -22,7 +20,7 @@ unfoldable pub textOf : Bool → ℕ → ℕ → ℕ → List ℕ
 textOf minus whole fraction places = minusText minus ++ (digits whole ++ behindWhole places fraction)
 
 unfoldable pub roomAnswer : List ℕ → List ℕ → Printed
-roomAnswer b text = printedBy (firstOf (rule 19 (shorter (length b) text) ∷ [])) text
+roomAnswer b text = printedBy (firstOf (roomRules text (length b))) text
 
 unfoldable pub roomBuffer : List ℕ → List ℕ → List ℕ
-roomBuffer b text = bufferBy (firstOf (rule 19 (shorter (length b) text) ∷ [])) text b
+roomBuffer b text = bufferBy (firstOf (roomRules text (length b))) text b

@@ -5,11 +5,12 @@ ghost use lib.ListN.{length};
 ghost use Rattle.integers.specs.Buffers.{Put};
 ghost use Rattle.shown_line.specs.Decimal.{digits};
 ghost use Rattle.printed_value.specs.PrintedValue.{nearestEven, lastDigits, behindWhole, printedAnswer, printedBuffer};
-ghost use Rattle.printing.specs.Writing.{minusText, fractionLength, textOf, roomAnswer, roomBuffer};
+ghost use Rattle.printed_value.specs.Prints.{minusText};
+ghost use Rattle.printing.specs.Writing.{fractionLength, textOf, roomAnswer, roomBuffer};
 use printed_value::Printed;
 
 // What is printed but for the sign: the whole part, and the digits behind the point as a number.
-struct Size {
+struct Rounded {
     whole: u64,
     fraction: u64,
 }
@@ -49,8 +50,8 @@ fn nearest(a: u64, b: u64) -> u64
 }
 
 // size / 2^shift rounded to so many places. Whole units are left aside two by two: what is left fits 64 bits when scaled, and is rounded as all of it would
-// be, since an even number more turns no half.
-fn rounded(size: u64, shift: u16, places: u16) -> Size
+// be, since an even number added changes neither the remainder nor which neighbour is even.
+fn round_size(size: u64, shift: u16, places: u16) -> Rounded
     requires { ⌜ (size ≤ 2 ^ 53) × (shift ≤ 31) × (places ≤ 9) ⌝ }
     ensures { λ r. ⌜ (r .whole ≡ nearestEven (size * 10 ^ places) (2 ^ shift) / 10 ^ places) × (r .fraction ≡ nearestEven (size * 10 ^ places) (2 ^ shift) % 10 ^ places) ⌝ }
 {
@@ -61,7 +62,7 @@ fn rounded(size: u64, shift: u16, places: u16) -> Size
     let last = nearest(rest * scale, unit);
     let whole = size / pair * 2 + last / scale;
     let fraction = last % scale;
-    Size {
+    Rounded {
         whole: whole,
         fraction: fraction,
     }
@@ -118,13 +119,13 @@ fn put_fraction(buffer: &mut [u8], at: usize, places: u16, fraction: u64) -> usi
 }
 
 // The text at the front of a buffer with room for it, where the whole part has so many digits.
-fn put_text(buffer: &mut [u8], minus: bool, size: Size, count: usize, places: u16) -> usize
-    requires { ⌜ (count ≡ length (digits (size .whole))) × (length (textOf minus (size .whole) (size .fraction) places) ≤ length (now buffer)) ⌝ }
-    ensures { λ r. ⌜ Put (now (buffer .entry)) 0 (textOf minus (size .whole) (size .fraction) places) (now (buffer .exit)) r ⌝ }
+fn put_text(buffer: &mut [u8], minus: bool, rounded: Rounded, count: usize, places: u16) -> usize
+    requires { ⌜ (count ≡ length (digits (rounded .whole))) × (length (textOf minus (rounded .whole) (rounded .fraction) places) ≤ length (now buffer)) ⌝ }
+    ensures { λ r. ⌜ Put (now (buffer .entry)) 0 (textOf minus (rounded .whole) (rounded .fraction) places) (now (buffer .exit)) r ⌝ }
 {
     let at = put_minus(buffer, minus);
-    let point = put_last(buffer, at, count, size.whole);
-    put_fraction(buffer, point, places, size.fraction)
+    let point = put_last(buffer, at, count, rounded.whole);
+    put_fraction(buffer, point, places, rounded.fraction)
 }
 
 // How many bytes stand before the whole part, and behind it.
@@ -140,15 +141,15 @@ fn fraction_length(places: u16) -> usize
     if places == 0 { 0 } else { places as usize + 1 }
 }
 
-// Prints a size with its sign; only 19 is left to refuse it.
-fn print_size(buffer: &mut [u8], minus: bool, size: Size, places: u16) -> Printed
-    ensures { λ r. ⌜ r ≡ roomAnswer (now (buffer .entry)) (textOf minus (size .whole) (size .fraction) places) ⌝ ∗ ⌜ now (buffer .exit) ≡ roomBuffer (now (buffer .entry)) (textOf minus (size .whole) (size .fraction) places) ⌝ }
+// Prints a rounded value with its sign; only 19 is left to refuse it.
+fn print_rounded(buffer: &mut [u8], minus: bool, rounded: Rounded, places: u16) -> Printed
+    ensures { λ r. ⌜ r ≡ roomAnswer (now (buffer .entry)) (textOf minus (rounded .whole) (rounded .fraction) places) ⌝ ∗ ⌜ now (buffer .exit) ≡ roomBuffer (now (buffer .entry)) (textOf minus (rounded .whole) (rounded .fraction) places) ⌝ }
 {
-    let count = digit_count(size.whole);
+    let count = digit_count(rounded.whole);
     if buffer.len() < minus_length(minus) + count + fraction_length(places) {
         return Printed::Refused(19);
     }
-    Printed::Text(put_text(buffer, minus, size, count, places))
+    Printed::Text(put_text(buffer, minus, rounded, count, places))
 }
 
 // Prints number / 2^shift with so many places at the front of a buffer and tells how many bytes it wrote: 17, then 18, then 19 refuse it, and nothing is
@@ -164,7 +165,7 @@ pub fn print_value(buffer: &mut [u8], number: i64, shift: u16, places: u16) -> P
     if beyond {
         return Printed::Refused(18);
     }
-    let size = rounded(integers::magnitude(number), shift, places);
-    let nonzero = (0 < size.whole) | (0 < size.fraction);
-    print_size(buffer, (number < 0) & nonzero, size, places)
+    let rounded = round_size(integers::magnitude(number), shift, places);
+    let nonzero = (0 < rounded.whole) | (0 < rounded.fraction);
+    print_rounded(buffer, (number < 0) & nonzero, rounded, places)
 }

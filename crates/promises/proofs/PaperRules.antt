@@ -50,7 +50,7 @@ use Rattle.doubles.proofs.Starred.{starred}
 use Rattle.shown_line.proofs.Thirteen.{inside-passes, passes-inside}
 use Rattle.search.specs.Search.{isDatagram}
 use Rattle.search.proofs.Datagrams.{datagram-parts, datagram-first}
-use Rattle.printed_value.proofs.ValueLaws.{prints, prints-only}
+use Rattle.printed_value.proofs.ValueLaws.{prints, prints-sign, prints-only}
 use Rattle.printed_value.proofs.WorkedValues.{worked-values}
 use Rattle.promises.specs.PaperRules.{MadeUp, PaperRules}
 
@@ -234,6 +234,7 @@ paper-rules =
       worked = worked;
       printed = prints;
       printed-only = λ n shift places p. prints-only n shift places p;
+      printed-sign = λ n shift places p. prints-sign n shift places p;
       printed-cases = worked-values;
       not-above = floor-not-above;
       greatest = floor-greatest;

@@ -21,7 +21,7 @@ use Rattle.motion.specs.Totals.{noAxis, axisAt}
 use Rattle.motion.specs.declared.Totals.{Totals}
 use Rattle.shown_line.specs.ShownLine.{shownText, outside, shownRules, writtenNumber, writtenBytes, shownAnswer, shownBuffer}
 use Rattle.shown_line.specs.declared.Shown.{Shown}
-use Rattle.printed_value.specs.PrintedValue.{valueText, valueRules, printedNumber, printedBytes, printedAnswer, printedBuffer}
+use Rattle.printed_value.specs.PrintedValue.{valueText, valueRules, printedRefusal, printedBytes, printedAnswer, printedBuffer}
 use Rattle.text.specs.TextLine.{lineText, lineRules, lineAnswer, lineBuffer}
 use Rattle.doubt.specs.Doubt.{noDoubt, doubtAt}
 use Rattle.scan.specs.Calls.{Report}
@@ -173,18 +173,18 @@ pub record ValuePrinted (b : List ℕ) (n : ℤ) (shift places : ℕ) : Type 0 w
   -- by 17 to 19, or the text
   pub front :
       let answer = printedAnswer b n shift places in
-      AtFront (valueRules n shift places (length b)) (valueText n shift places) b (printedNumber answer) (printedBytes answer)
+      AtFront (valueRules n shift places (length b)) (valueText n shift places) b (printedRefusal answer) (printedBytes answer)
       (printedBuffer b n shift places)
-  pub numbers : {k : ℕ} → printedNumber (printedAnswer b n shift places) ≡ some k → Between 17 19 k
+  pub numbers : {k : ℕ} → printedRefusal (printedAnswer b n shift places) ≡ some k → Between 17 19 k
   -- 17 comes first, then 18, then 19, which refuses exactly a buffer shorter than the text
-  pub out-of-range : (9 < places) ⊎ (31 < shift) → printedNumber (printedAnswer b n shift places) ≡ some 17
-  pub beyond : places ≤ 9 → shift ≤ 31 → 2 ^ 53 < natAbs n → printedNumber (printedAnswer b n shift places) ≡ some 18
+  pub out-of-range : (9 < places) ⊎ (31 < shift) → printedRefusal (printedAnswer b n shift places) ≡ some 17
+  pub beyond : places ≤ 9 → shift ≤ 31 → 2 ^ 53 < natAbs n → printedRefusal (printedAnswer b n shift places) ≡ some 18
   pub too-short :
       places ≤ 9 → shift ≤ 31 → natAbs n ≤ 2 ^ 53 → length b < length (valueText n shift places)
-      → printedNumber (printedAnswer b n shift places) ≡ some 19
+      → printedRefusal (printedAnswer b n shift places) ≡ some 19
   pub fits :
       places ≤ 9 → shift ≤ 31 → natAbs n ≤ 2 ^ 53 → length (valueText n shift places) ≤ length b
-      → printedNumber (printedAnswer b n shift places) ≡ none
+      → printedRefusal (printedAnswer b n shift places) ≡ none
   -- it never does if the buffer has 27 bytes
   pub room : places ≤ 9 → natAbs n ≤ 2 ^ 53 → length (valueText n shift places) ≤ 27
 

@@ -7,7 +7,7 @@ use mathlib.Core.Option.{none, some}
 use mathlib.Core.Path.{_≡_}
 use lib.Dec.{eqb}
 use lib.IntN.{ℤ, pos, _+ℤ_, _*ℤ_}
-use lib.Signed.{_≤ℤ_}
+use lib.Signed.{_≤ℤ_, _<ℤ_}
 use lib.ListN.{length, getD, replicate}
 use Rattle.integers.specs.Bytes.{AllBytes, bigEndian}
 use Rattle.integers.specs.Folding.{fold}
@@ -127,9 +127,14 @@ pub record PaperRules : Type 0 where
   pub passes-widths : (u : Setup) (readings : List (List ℤ)) (v : Values) → PassesFifteen u readings v → making.outside u readings v ≡ false
   -- a datagram that carries every part, byte by byte
   pub worked : Worked
-  -- the text of a value is what 2.6 says that it is, and no other text is; texts worked out by hand
+  -- the text of a value is what 2.6 says that it is, and no other text is
   pub printed : (n : ℤ) (shift places : ℕ) → Prints n shift places (valueText n shift places)
   pub printed-only : (n : ℤ) (shift places : ℕ) {t : List ℕ} → Prints n shift places t → t ≡ valueText n shift places
+  -- `-` stands exactly before a number below 0 of which a nonzero digit is printed
+  pub printed-sign :
+      (n : ℤ) (shift places : ℕ) {t : List ℕ} (p : Prints n shift places t)
+      → (p .minus ≡ true → n <ℤ pos 0) × (n <ℤ pos 0 → 0 < p .printed → p .minus ≡ true)
+  -- and texts worked out by hand
   pub printed-cases : WorkedValues
   -- rounded down is the greatest whole number not above
   pub not-above : (z : ℤ) (d : ℕ) → 0 < d → (floor z d *ℤ pos d) ≤ℤ z

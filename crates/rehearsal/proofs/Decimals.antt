@@ -14,26 +14,17 @@ use Rattle.setup_line.specs.SetupLine.{isDigit, allDigits}
 use Rattle.setup_line.proofs.Digits.{digit-range}
 use Rattle.shown_line.specs.Decimal.{digits, decimal}
 use Rattle.shown_line.specs.ShownLine.{shownIf}
-use Rattle.shown_line.proofs.Digits.{digits-small, digits-value, digits-all, no-leading-zero}
+use Rattle.shown_line.proofs.Digits.{digits-some, digits-small, digits-value, digits-all, no-leading-zero}
 use Rattle.rehearsal.specs.RehearsalLine.{digitsWritten, numberWritten, fieldWritten, numberValue, nearest}
 use Rattle.rehearsal.proofs.Nearest.{nearest-held}
 use Rattle.rehearsal.proofs.Numbers.{number-minus, number-plain, value-minus, value-plain}
 
 -- ---- digits
 
--- there are some
-some-digits : (n : ℕ) → 0 < length (digits n)
-some-digits zero = omega (arith, ap length (digits-small 0 (omega arith)))
-some-digits (suc n) = by (digits (suc n)) (no-leading-zero (suc n) (omega arith))
-  where
-    by : (ds : List ℕ) → 0x31 ≤ getD ds 0 0 → 0 < length ds
-    by [] h = absurd (omega arith)
-    by (d ∷ ds) h = omega arith
-
--- and the first is no `-`
+-- the first is no `-`
 first-digit : (n : ℕ) → getD (digits n) 0 0 ≡ 0x2D → ⊥
 unfolding allDigits
-first-digit n = by (digits n) (some-digits n) (digits-all n)
+first-digit n = by (digits n) (digits-some n) (digits-all n)
   where
     by : (ds : List ℕ) → 0 < length ds → allDigits ds ≡ true → getD ds 0 0 ≡ 0x2D → ⊥
     by [] h a e = omega arith
@@ -48,12 +39,12 @@ alone-or-led (suc n) =
 
 digits-written : (n : ℕ) → digitsWritten (digits n) ≡ true
 unfolding digitsWritten
-digits-written n = rw (le-leb 1 (length (digits n)) (some-digits n), digits-all n, alone-or-led n)
+digits-written n = rw (le-leb 1 (length (digits n)) (digits-some n), digits-all n, alone-or-led n)
 
 -- ---- decimals
 
 positive-written : (n : ℕ) → numberWritten (digits n) ≡ true
-positive-written n = number-plain (digits n) (some-digits n) (first-digit n) ∙ digits-written n
+positive-written n = number-plain (digits n) (digits-some n) (first-digit n) ∙ digits-written n
 
 negative-written : (n : ℕ) → numberWritten (0x2D ∷ digits (suc n)) ≡ true
 negative-written n =

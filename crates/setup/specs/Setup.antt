@@ -32,7 +32,7 @@ unitNumber Incremental = 1
 unitNumber Average = 2
 unitNumber Integrated = 3
 
--- a reason to turn something down, whether it applies, and 01's number for it
+-- a reason to turn something down, whether it applies, and the paper's number for it
 pub record Rule : Type 0 where
   pub applies : Bool
   pub number : ℕ

@@ -40,14 +40,14 @@ returns-2 c =
 magnitude-requires : tie.Need-magnitude-requires
 magnitude-requires c κs = search needs
 
-rounded-requires : tie.Need-rounded-requires
-rounded-requires c κs =
+round-size-requires : tie.Need-round-size-requires
+round-size-requires c κs =
     let a = c .before .before .before .before .before .args in
     let r = in-range-back (a .shift) (a .places) (c .before .before .if1 .left) in
     (omega (arith, size c, within-limit-back (a .number) (inside (c .before))), r .1, r .0)
 
-print-size-requires : tie.Need-print-size-requires
-print-size-requires c κs = search needs
+print-rounded-requires : tie.Need-print-rounded-requires
+print-rounded-requires c κs = search needs
 
 same-length : tie.Need-same-length
 same-length c = search needs
@@ -55,9 +55,9 @@ same-length c = search needs
 returns-3 : tie.Need-returns-3
 returns-3 c =
     let a = c .before .before .before .before .before .before .before .before .before .before .before .before .args in
-    let e = rw (size (c .before .before .before .before .before .before .before)) at (c .before .before .before .before .before .before .rounded .ensures) in
+    let e = rw (size (c .before .before .before .before .before .before .before)) at (c .before .before .before .before .before .before .round-size .ensures) in
     value-written (a .number) (a .shift) (a .places) (a .buffer .now) (c .before .before .before .before .before .before .before .before .before .if1 .left) (inside (c .before .before .before .before .before .before .before .before)) _
-    (value-parts (a .number) (a .shift) (a .places) (e .0) (e .1)) (rw (toZ-ofZ w64 (a .number) (c .before .before .before .before .before .before .before .before .before .before .before .before .fits .number)) at (c .before .before .print-size .ensures))
+    (value-parts (a .number) (a .shift) (a .places) (e .0) (e .1)) (rw (toZ-ofZ w64 (a .number) (c .before .before .before .before .before .before .before .before .before .before .before .before .fits .number)) at (c .before .before .print-rounded .ensures))
 
 pub print-value-spec : {M : Type 1} → statement M
 print-value-spec =
@@ -67,7 +67,7 @@ print-value-spec =
     returns
     returns-2
     magnitude-requires
-    rounded-requires
-    print-size-requires
+    round-size-requires
+    print-rounded-requires
     same-length
     returns-3)

@@ -6,18 +6,18 @@ use Rattle.printing.proofs.put_text.Tie as tie
 put-minus-requires : tie.Need-put-minus-requires
 put-minus-requires c κs =
     let s = c .before .before in
-    minus-room (s .args .minus) (s .args .size .whole) (s .args .size .fraction) (s .args .places) (s .args .buffer .now) (s .pre .1)
+    minus-room (s .args .minus) (s .args .rounded .whole) (s .args .rounded .fraction) (s .args .places) (s .args .buffer .now) (s .pre .1)
 
 put-last-requires : tie.Need-put-last-requires
 put-last-requires c κs =
     let s = c .before .before .before .before .before .before in
-    whole-room (s .args .minus) (s .args .size .whole) (s .args .size .fraction) (s .args .places) (s .args .buffer .now) (s .pre .1) (s .pre .0)
+    whole-room (s .args .minus) (s .args .rounded .whole) (s .args .rounded .fraction) (s .args .places) (s .args .buffer .now) (s .pre .1) (s .pre .0)
     (c .before .before .before .put-minus .ensures)
 
 put-fraction-requires : tie.Need-put-fraction-requires
 put-fraction-requires c κs =
     let s = c .before .before .before .before .before .before .before .before .before .before in
-    fraction-room (s .args .minus) (s .args .size .whole) (s .args .size .fraction) (s .args .places) (s .args .buffer .now) (s .pre .1) (s .pre .0)
+    fraction-room (s .args .minus) (s .args .rounded .whole) (s .args .rounded .fraction) (s .args .places) (s .args .buffer .now) (s .pre .1) (s .pre .0)
     (c .before .before .before .before .before .before .before .put-minus .ensures) (c .before .before .before .put-last .ensures)
 
 same-length : tie.Need-same-length
@@ -26,7 +26,7 @@ same-length c = search needs
 returns : tie.Need-returns
 returns c =
     let s = c .before .before .before .before .before .before .before .before .before .before .before .before .before in
-    text-put (s .args .minus) (s .args .size .whole) (s .args .size .fraction) (s .args .places) (s .args .buffer .now) (s .pre .1) (s .pre .0)
+    text-put (s .args .minus) (s .args .rounded .whole) (s .args .rounded .fraction) (s .args .places) (s .args .buffer .now) (s .pre .1) (s .pre .0)
     (c .before .before .before .before .before .before .before .before .before .before .put-minus .ensures) (c .before .before .before .before .before .before .put-last .ensures) (c .before .before .put-fraction .ensures)
 
 pub put-text-spec : {M : Type 1} → statement M

@@ -5,8 +5,8 @@ use native.Mathlib.Nat.{div-le-self}
 use native.Mathlib.Omega.{arith}
 use Rattle.printed_value.proofs.Nearest.{nearest-at-most}
 use Rattle.printing.proofs.WholeAndFraction.{unit-range, scale-range, rest-small, whole-part, fraction-part}
-use Rattle.printing.proofs.rounded.Statement.{statement}
-use Rattle.printing.proofs.rounded.Tie as tie
+use Rattle.printing.proofs.round_size.Statement.{statement}
+use Rattle.printing.proofs.round_size.Tie as tie
 
 -- the powers are as large as that
 unit : (c : tie.After-power-of-ten) → (0 < c .before .power-of-two .result) × (c .before .power-of-two .result ≤ 2 ^ 31)
@@ -67,8 +67,8 @@ add-whole c = omega (arith, halved c, last-small c, div-le-self (c .nearest .res
 rem-fraction : tie.Need-rem-fraction
 rem-fraction c = scale (c .before) .0
 
-pub rounded-spec : {M : Type 1} → statement M
-rounded-spec =
+pub round-size-spec : {M : Type 1} → statement M
+round-size-spec =
     tie.close
     (tie.spec
     power-of-two-requires

@@ -4,14 +4,15 @@ use Prim.Native.Nat.{ℕ, _+_, _≤_}
 use native.Mathlib.Omega.{arith}
 use lib.ListN.{length}
 use Rattle.shown_line.proofs.Digits.{digits-at-most}
+use Rattle.printed_value.proofs.ValueLaws.{behind-length, behind-at-most, minus-at-most}
 use Rattle.printing.specs.Writing.{textOf}
-use Rattle.printing.proofs.TextParts.{text-length, sign-length, fraction-few, room-short, room-put}
+use Rattle.printing.proofs.TextParts.{text-length, room-short, room-put}
 use borrow.Author.Needs.{needs}
-use Rattle.printing.proofs.print_size.Statement.{statement}
-use Rattle.printing.proofs.print_size.Tie as tie
+use Rattle.printing.proofs.print_rounded.Statement.{statement}
+use Rattle.printing.proofs.print_rounded.Tie as tie
 
 abbrev text : tie.Start → List ℕ
-text s = textOf (s .args .minus) (s .args .size .whole) (s .args .size .fraction) (s .args .places)
+text s = textOf (s .args .minus) (s .args .rounded .whole) (s .args .rounded .fraction) (s .args .places)
 
 -- what is measured is the text's length
 long : (c : tie.After-fraction-length) → c .before .minus-length .result + c .before .before .digit-count .result + c .fraction-length .result ≡ length (text (c .before .before .before .before))
@@ -19,7 +20,7 @@ long c =
     let s = c .before .before .before .before in
     omega (
       arith,
-      text-length (s .args .minus) (s .args .size .whole) (s .args .size .fraction) (s .args .places),
+      text-length (s .args .minus) (s .args .rounded .whole) (s .args .rounded .fraction) (s .args .places),
       c .before .minus-length .ensures,
       c .before .before .digit-count .ensures,
       c .fraction-length .ensures,
@@ -27,7 +28,7 @@ long c =
 
 -- none of the three is large
 few : (c : tie.After-digit-count) → c .digit-count .result ≤ 20
-few c = omega (arith, c .digit-count .ensures, digits-at-most 19 (c .before .before .args .size .whole) (omega arith))
+few c = omega (arith, c .digit-count .ensures, digits-at-most 19 (c .before .before .args .rounded .whole) (omega arith))
 
 digit-count-requires : tie.Need-digit-count-requires
 digit-count-requires c κs = search needs
@@ -36,7 +37,7 @@ minus-length-requires : tie.Need-minus-length-requires
 minus-length-requires c κs = search needs
 
 add-if1 : tie.Need-add-if1
-add-if1 c = omega (arith, sign-length (c .before .before .before .args .minus), c .minus-length .ensures, few (c .before))
+add-if1 c = omega (arith, minus-at-most (c .before .before .before .args .minus), c .minus-length .ensures, few (c .before))
 
 fraction-length-requires : tie.Need-fraction-length-requires
 fraction-length-requires c κs = search needs
@@ -44,7 +45,7 @@ fraction-length-requires c κs = search needs
 add-if1-2 : tie.Need-add-if1-2
 add-if1-2 c =
     let s = c .before .before .before .before in
-    omega (arith, sign-length (s .args .minus), c .before .minus-length .ensures, few (c .before .before), c .fraction-length .ensures, fraction-few (s .args .places))
+    omega (arith, minus-at-most (s .args .minus), c .before .minus-length .ensures, few (c .before .before), c .fraction-length .ensures, behind-length (s .args .places) 0, behind-at-most (s .args .places) 0)
 
 returns : tie.Need-returns
 returns c = let s = c .before .before .before .before .before in room-short (s .args .buffer .now) (text s) (omega (arith, long (c .before), c .if1 .taken))
@@ -60,8 +61,8 @@ returns-2 c =
     let s = c .before .before .before .before .before .before .before .before .before in
     room-put (s .args .buffer .now) (text s) (omega (arith, long (c .before .before .before .before .before), c .before .before .before .before .if1 .left)) (c .before .before .put-text .ensures)
 
-pub print-size-spec : {M : Type 1} → statement M
-print-size-spec =
+pub print-rounded-spec : {M : Type 1} → statement M
+print-rounded-spec =
     tie.close
     (tie.spec
     digit-count-requires
