@@ -42,5 +42,5 @@ pub record Prints (n : ℤ) (shift places : ℕ) (text : List ℕ) : Type 0 wher
   pub minus-nonzero : minus ≡ true → 0 < printed
   -- the printed number is at most half a last place from the exact value
   pub near : distance n shift places (withSign minus printed) * 2 ≤ 2 ^ shift
-  -- halves to the even last digit
+  -- halves to the even last digit, which an even number has
   pub even : distance n shift places (withSign minus printed) * 2 ≡ 2 ^ shift → printed % 2 ≡ 0
