@@ -65,7 +65,7 @@ fn written_form() {
     assert_eq!(answer_to(-3, 10, 1), "value refused 17 ee\n");
 }
 
-const TEXTS_BY_HAND: [(i64, u16, u16, &str); 65] = [
+const TEXTS_BY_HAND: [(i64, u16, u16, &str); 70] = [
     // Halves of whole numbers.
     (1, 1, 0, "0"),
     (3, 1, 0, "2"),
@@ -129,6 +129,12 @@ const TEXTS_BY_HAND: [(i64, u16, u16, &str); 65] = [
     (16, 21, 5, "0.00001"),
     (8_053_064, 21, 2, "3.84"),
     (8_053_064, 21, 9, "3.840000153"),
+    // The README's.
+    (1_258_296, 21, 4, "0.6000"),
+    (1_258_296, 21, 9, "0.600002289"),
+    (-8_283_750, 21, 4, "-3.9500"),
+    (-2_097, 21, 2, "0.00"),
+    (4_095, 12, 3, "1.000"),
     // The ends.
     (LARGEST, 0, 0, "9007199254740992"),
     (-LARGEST, 0, 9, "-9007199254740992.000000000"),
@@ -264,10 +270,10 @@ fn hold_to_paper(value: &Value, text: &str) {
     let printed = if has_sign { -size } else { size } << value.shift;
     let exact = i128::from(value.number) * 10_i128.pow(value.places.into());
     let distance = (printed - exact).abs();
-    let half_a_place = 1_i128 << value.shift;
-    assert!(2 * distance <= half_a_place, "{value:?} as {text}");
+    let last_place = 1_i128 << value.shift;
+    assert!(2 * distance <= last_place, "{value:?} as {text}");
     assert!(
-        2 * distance < half_a_place || size % 2 == 0,
+        2 * distance < last_place || size % 2 == 0,
         "{value:?} as {text}"
     );
 }
