@@ -124,7 +124,7 @@ pub two-left : (s : List ℕ) (n : ℕ) → length s ≡ n + 2 → drop n s ≡ 
 two-left s n e =
     sym (take-all 2 (drop n s) (omega (arith, length-drop n s))) ∙ sym (window-within 2 n s (omega arith)) ∙ two-bytes n s
 
-last-true : (a b : Bool) → (a && (b && true)) ≡ (a && b)
+pub last-true : (a b : Bool) → (a && (b && true)) ≡ (a && b)
 last-true a true = refl
 last-true a false = refl
 

@@ -37,11 +37,11 @@ ending-bytes : (r : Row) (t : Bool) → AllBytes (layoutOf r t .ending)
 ending-bytes r true = bytes-cons (omega arith) (bytes-cons (omega arith) bytes-nil)
 ending-bytes r false = bytes-nil
 
-same-self : (l : List ℕ) → same l l ≡ true
+pub same-self : (l : List ℕ) → same l l ≡ true
 same-self [] = refl
 same-self (x ∷ l) = rw (eq-eqb x x refl) (same-self l)
 
-same-equal : (k l : List ℕ) → same k l ≡ true → k ≡ l
+pub same-equal : (k l : List ℕ) → same k l ≡ true → k ≡ l
 same-equal [] [] e = refl
 same-equal [] (y ∷ l) e = let z : _≡_ {A = ℕ} 0 1 = cc in absurd (omega arith)
 same-equal (x ∷ k) [] e = let z : _≡_ {A = ℕ} 0 1 = cc in absurd (omega arith)

@@ -1,0 +1,3 @@
+-- Laws of the stretches.
+pub mod Restarts
+pub mod Examples

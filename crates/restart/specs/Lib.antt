@@ -1,0 +1,2 @@
+-- The stretches between a sensor's restarts.
+pub mod Restarts

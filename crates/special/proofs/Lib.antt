@@ -1,0 +1,4 @@
+-- Laws of the special datagrams.
+pub mod Specials
+pub mod Beginnings
+pub mod Examples

@@ -1,0 +1,2 @@
+-- The special datagrams.
+pub mod Special
