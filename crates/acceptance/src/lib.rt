@@ -1,3 +1,4 @@
+#![tactic(auto)]
 // Whether bytes are an acceptable datagram (01, The check, The scan).
 ghost use Rattle.std.specs.Prelude.{◌≡◌, false, ◌≤◌, length};
 ghost use Rattle.setup.specs.Layout.{layout_of, length_in};

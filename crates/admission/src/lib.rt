@@ -1,3 +1,4 @@
+#![tactic(auto)]
 // Whether feeding turns down a session or a piece (01, What is turned down, 10 to 12; 02, 2.5).
 ghost use Rattle.std.specs.Prelude.{◌≡◌, ◌&&◌, ◌+◌, ◌*◌, ◌^◌, ◌≤◌, ◌<◌, eqb, leb, length, take, drop};
 ghost use Rattle.setup.specs.Setup.{ruling_on};
@@ -22,14 +23,14 @@ const TOO_LONG: u8 = 11;
 const SESSION_LIMIT: u64 = 17179869184;
 
 // Whether a piece may be fed: with the sensor of the session's setup, or refused by a number.
-#[derive(Drop)]
+#[derive(Clone, Copy)]
 pub enum Admission {
     Admitted(Sensor),
     Refused(u8),
 }
 
 // The limits of a setup's sessions: the most bytes of a piece, the number that refuses a longer one, the most bytes of a session.
-#[derive(Drop)]
+#[derive(Clone, Copy)]
 struct Limits {
     piece: usize,
     too_long: u8,

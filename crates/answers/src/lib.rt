@@ -1,3 +1,4 @@
+#![tactic(auto)]
 // A datagram as it comes back with an answer, and what stands in its place where none is handed out (01, The scan; Status, doubles, gaps; Totals; 02, 2.3, 2.5).
 ghost use Rattle.std.specs.Prelude.{◌≡◌};
 ghost use Rattle.motion.specs.Totals.{no_axes, totals_of};

@@ -1,3 +1,4 @@
+#![tactic(auto)]
 // Runs cases of the building blocks, as `probe` does of the calls that a user makes. Each line of standard input is a case: its kind, what
 // must come out, and what goes in, parted by single spaces. It is written back behind `ok`, or behind `WRONG` if something else came out.
 //     check HEX HEX          the check of bytes, with the zero bytes that aren't sent
@@ -69,7 +70,7 @@ fn hexadecimal_at(given: &[u8], from: usize) -> u64 {
     number
 }
 
-#[derive(Drop)]
+#[derive(Clone, Copy)]
 struct Bytes {
     bytes: [u8; 256],
     count: usize,

@@ -1,3 +1,4 @@
+#![tactic(auto)]
 // The check of a datagram (01, The check), four bytes at a time, and CRC-32/MPEG-2, a byte at a time.
 // `crc32` keeps a register of 64 bits, whose remainder is the check's: 32 shifts of it are four look-ups that do not wait for each other.
 ghost use Rattle.std.specs.Prelude.{◌≡◌, [], ◌∷◌, ◌+◌, ◌*◌, ◌%◌, ◌^◌, ◌≤◌, length, drop};

@@ -1,3 +1,4 @@
+#![tactic(auto)]
 // Readings and totals as doubles, each exactly over 2^shift (01, Status, doubles, gaps; Totals).
 ghost use Rattle.std.specs.Prelude.{◌≡◌, ◌≤◌, ◌^◌, pos, nat_abs};
 ghost use Rattle.std.specs.Float.{binary64};
@@ -9,7 +10,7 @@ use motion::{Axes, Axis, GroupAxes};
 use setup::{Shifts, Unit, Units};
 
 // The three values of a group, X, Y and Z, by its unit.
-#[derive(Drop)]
+#[derive(Clone, Copy)]
 pub enum Values {
     Instantaneous(f64, f64, f64),
     Incremental(f64, f64, f64),
@@ -17,7 +18,7 @@ pub enum Values {
     Integrated(f64, f64, f64),
 }
 
-#[derive(Drop)]
+#[derive(Clone, Copy)]
 pub struct GroupValues {
     pub gyro: Values,
     pub accelerometer: Values,
@@ -25,7 +26,7 @@ pub struct GroupValues {
 }
 
 // The totals of one datagram as doubles.
-#[derive(Drop)]
+#[derive(Clone, Copy)]
 pub struct TotalDoubles {
     pub gyro_x: f64,
     pub gyro_y: f64,
@@ -39,7 +40,7 @@ pub struct TotalDoubles {
 }
 
 // Those of one group.
-#[derive(Drop)]
+#[derive(Clone, Copy)]
 struct GroupDoubles {
     x: f64,
     y: f64,

@@ -1,3 +1,4 @@
+#![tactic(auto)]
 // Totals that may have slipped: what is kept of each gyro axis beside its total, and what one more datagram does to it (02, 2.5).
 ghost use Rattle.std.specs.Prelude.{◌≡◌, eqb, leb};
 ghost use Rattle.setup.specs.Setup.{hertz};
@@ -14,13 +15,13 @@ const GREATEST_SUM: u64 = 65535;
 const MOST_SAMPLES: u32 = 16;
 
 // What is kept of a gyro axis beside its total: the internal samples since its last fit datagram, and whether its total is doubtful.
-#[derive(Drop)]
+#[derive(Clone, Copy)]
 pub struct AxisDoubt {
     pub samples: Samples,
     pub marked: bool,
 }
 
-#[derive(Drop)]
+#[derive(Clone, Copy)]
 pub struct GyroDoubt {
     pub x: AxisDoubt,
     pub y: AxisDoubt,
@@ -28,7 +29,7 @@ pub struct GyroDoubt {
 }
 
 // Whether the total of each gyro axis is doubtful, as it comes back with a datagram.
-#[derive(Drop)]
+#[derive(Clone, Copy)]
 pub struct GyroMarks {
     pub x: bool,
     pub y: bool,

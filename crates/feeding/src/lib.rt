@@ -1,3 +1,4 @@
+#![tactic(auto)]
 // What feeding a session gives back: no code (01, The scan; Status, doubles, gaps; Totals; 02, 2.3, 2.5).
 use doubles::{GroupValues, TotalDoubles};
 use doubt::GyroMarks;
@@ -7,7 +8,7 @@ use session::Session;
 use wire::Fields;
 
 // A datagram as it comes back.
-#[derive(Drop)]
+#[derive(Clone, Copy)]
 pub struct Datagram {
     // readings X, Y, Z of each group
     pub gyro: [i32; 3],
@@ -28,7 +29,7 @@ pub struct Datagram {
 }
 
 // What happened: a datagram was handed out, the piece ended, the call was refused by a number.
-#[derive(Drop)]
+#[derive(Clone, Copy)]
 pub enum Answer {
     Datagram,
     Waiting,
@@ -36,7 +37,7 @@ pub enum Answer {
 }
 
 // What a call tells: which happened, how many bytes it took, the new session, and the datagram, zeros, every axis fit and no mark where none is handed out.
-#[derive(Drop)]
+#[derive(Clone, Copy)]
 pub struct Reply {
     pub answer: Answer,
     pub taken: usize,

@@ -1,3 +1,4 @@
+#![tactic(auto)]
 // What lies between two datagrams (01, Status, doubles, gaps).
 ghost use Rattle.std.specs.Prelude.{◌≡◌, ◌<◌};
 ghost use Rattle.gaps.specs.Gaps.{elapsed, gap_with, missed_after, gap_between};
@@ -5,15 +6,15 @@ ghost use Rattle.gaps.specs.Gaps.{elapsed, gap_with, missed_after, gap_between};
 use setup::Rate;
 
 // A count of internal samples, 2,000 a second.
-#[derive(Drop)]
+#[derive(Clone, Copy)]
 pub struct Samples(pub u32);
 
 // A count of datagrams.
-#[derive(Drop)]
+#[derive(Clone, Copy)]
 pub struct Datagrams(pub u64);
 
 // What lies between two datagrams.
-#[derive(Drop)]
+#[derive(Clone, Copy)]
 pub enum Gap {
     Missed(Datagrams),
     OffStep,

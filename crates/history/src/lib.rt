@@ -1,3 +1,4 @@
+#![tactic(auto)]
 // What a session keeps of the datagrams handed out, and what one more does to it (01, Status, doubles, gaps; Totals; 02, 2.5).
 ghost use Rattle.std.specs.Prelude.{◌≡◌};
 ghost use Rattle.history.specs.History.{no_history, awaits_first, gap_next, advanced};
@@ -11,7 +12,7 @@ use setup::Rate;
 const GREATEST_COUNT: u64 = 18446744073709551615;
 
 // What a session keeps of the datagrams handed out, beside the bytes and counts of the scan.
-#[derive(Drop)]
+#[derive(Clone, Copy)]
 pub struct History {
     // how many there were
     pub datagrams: Datagrams,

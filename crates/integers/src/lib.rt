@@ -1,3 +1,4 @@
+#![tactic(auto)]
 // The values of bytes, and tests on whole numbers, for the crates above.
 ghost use Rattle.std.specs.Prelude.{◌≡◌, [], ◌∷◌, nat_abs, get_or};
 ghost use Rattle.integers.specs.Bytes.{big_endian, signed_bytes};

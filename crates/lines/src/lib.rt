@@ -1,3 +1,4 @@
+#![tactic(auto)]
 // A whole piece at once: the text lines of all datagrams that it completes, into a lent buffer.
 ghost use Rattle.std.specs.Prelude.{◌≡◌, true, false, [], ◌∷◌, ◌+◌, ◌-◌, ◌≤◌, length};
 ghost use Rattle.std.proofs.lemmas.List.Edits.{sets};
@@ -29,7 +30,7 @@ use whole_piece::{Batch, Received};
 const ENOUGH: usize = 72000;
 
 // What is looked up once for a piece: what the setup says of its sensor, and which fields of a line it shows.
-#[derive(Drop)]
+#[derive(Clone, Copy)]
 struct LookedUp {
     setup: Setup,
     sensor: Sensor,
@@ -37,7 +38,7 @@ struct LookedUp {
 }
 
 // What a datagram of the piece moves on.
-#[derive(Drop)]
+#[derive(Clone, Copy)]
 struct Progress {
     history: History,
     // how many bytes were passed over

@@ -1,8 +1,9 @@
+#![tactic(auto)]
 // What a datagram is written from, and what comes back of writing one: no code (02, 2.1).
 
 // What a datagram is to carry beside its readings; 0 for what its identifier doesn't carry. The numbers are wider than the fields, so that each reaches
 // its check unnarrowed.
-#[derive(Drop)]
+#[derive(Clone, Copy)]
 pub struct Values {
     // gyro, accelerometer, inclinometer
     pub statuses: [i32; 3],
@@ -18,7 +19,7 @@ pub struct Values {
 }
 
 // The bytes of the datagram that was written, or the number that refused it.
-#[derive(Drop)]
+#[derive(Clone, Copy)]
 pub enum Made {
     Datagram(usize),
     Refused(u8),

@@ -1,3 +1,4 @@
+#![tactic(auto)]
 // Datagrams written from values (02, 2.1).
 ghost use Rattle.std.specs.Prelude.{◌≡◌, [], ◌∷◌, ◌+◌, ◌≤◌, ◌<◌, length, take};
 ghost use Rattle.integers.specs.Buffers.{Put};

@@ -1,3 +1,4 @@
+#![tactic(auto)]
 // What the fields of a datagram mean: status, fitness and judgement, totals (01, Status, doubles, gaps; Totals; 02, 2.2, 2.3).
 ghost use Rattle.std.specs.Prelude.{◌≡◌, ℕ, ◌^◌, ◌≤◌, pos, ◌+ℤ◌, ◌==◌, unsigned_abs};
 ghost use Rattle.integers.specs.Ranges.{within};
@@ -13,21 +14,21 @@ use setup::{Row, Unit, Units};
 const GREATEST_TOTAL: u64 = 9007199254740992;
 
 // What is kept of an axis: whether a fit datagram came, the last fit reading and the total.
-#[derive(Drop)]
+#[derive(Clone, Copy)]
 pub struct Axis {
     pub begun: bool,
     pub last: i32,
     pub total: i64,
 }
 
-#[derive(Drop)]
+#[derive(Clone, Copy)]
 pub struct GroupAxes {
     pub x: Axis,
     pub y: Axis,
     pub z: Axis,
 }
 
-#[derive(Drop)]
+#[derive(Clone, Copy)]
 pub struct Axes {
     pub gyro: GroupAxes,
     pub accelerometer: GroupAxes,
@@ -35,20 +36,20 @@ pub struct Axes {
 }
 
 // A total as it comes back with a datagram.
-#[derive(Drop)]
+#[derive(Clone, Copy)]
 pub struct Total {
     pub begun: bool,
     pub steps: i64,
 }
 
-#[derive(Drop)]
+#[derive(Clone, Copy)]
 pub struct GroupTotals {
     pub x: Total,
     pub y: Total,
     pub z: Total,
 }
 
-#[derive(Drop)]
+#[derive(Clone, Copy)]
 pub struct Totals {
     pub gyro: GroupTotals,
     pub accelerometer: GroupTotals,
@@ -56,7 +57,7 @@ pub struct Totals {
 }
 
 // The judgement of an axis by its group's status byte (02, 2.3).
-#[derive(Drop)]
+#[derive(Clone, Copy)]
 pub enum Judgement {
     Fit,
     // bit 7
@@ -69,14 +70,14 @@ pub enum Judgement {
     Overload,
 }
 
-#[derive(Drop)]
+#[derive(Clone, Copy)]
 pub struct GroupJudgements {
     pub x: Judgement,
     pub y: Judgement,
     pub z: Judgement,
 }
 
-#[derive(Drop)]
+#[derive(Clone, Copy)]
 pub struct Judgements {
     pub gyro: GroupJudgements,
     pub accelerometer: GroupJudgements,

@@ -1,7 +1,8 @@
+#![tactic(auto)]
 // What comes back of printing a value: no code (02, 2.6).
 
 // The bytes of the text that was written, or the number that refused it.
-#[derive(Drop)]
+#[derive(Clone, Copy)]
 pub enum Printed {
     Text(usize),
     Refused(u8),

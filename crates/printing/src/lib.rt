@@ -1,3 +1,4 @@
+#![tactic(auto)]
 // A total or a reading over 2^shift in decimals, written into a lent buffer (02, 2.6).
 ghost use Rattle.std.specs.Prelude.{◌≡◌, ◌+◌, ◌*◌, ◌/◌, ◌%◌, ◌^◌, ◌<◌, ◌≤◌, length};
 ghost use Rattle.integers.specs.Buffers.{Put};
@@ -9,7 +10,7 @@ ghost use Rattle.printing.specs.Writing.{fraction_length, text_of, room_answer, 
 use printed_value::Printed;
 
 // What is printed but for the sign: the whole part, and the digits behind the point as a number.
-#[derive(Drop)]
+#[derive(Clone, Copy)]
 struct Rounded {
     whole: u64,
     fraction: u64,

@@ -1,3 +1,4 @@
+#![tactic(auto)]
 // Answers records of calls, so that every field of every answer can be compared with what another program expects. Standard input is a
 // row of records: a byte for the kind, two bytes for the length of what follows, then that. Numbers have their least significant byte
 // first, signed ones are two's complement. The kinds, with the place of each value:

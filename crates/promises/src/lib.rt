@@ -1,1 +1,2 @@
+#![tactic(auto)]
 // What is promised of the receiver, as one type: no code (specs/Promised.antt).

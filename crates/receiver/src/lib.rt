@@ -1,3 +1,4 @@
+#![tactic(auto)]
 // Feeding a session: which datagrams a piece completes, and what comes back with each (01, The scan; Status, doubles, gaps; Totals).
 ghost use Rattle.std.specs.Prelude.{◌≡◌, [], ◌++◌, ◌+◌, ◌≤◌, ◌<◌, min, length, drop};
 ghost use Rattle.std.proofs.lemmas.List.Edits.{sets};

@@ -1,3 +1,4 @@
+#![tactic(auto)]
 // The line that says what a datagram is to carry (02, 2.1).
 ghost use Rattle.std.specs.Prelude.{◌≡◌, ◌&&◌, ◌<◌, min, eqb, pos, neg_ℤ, length, get_or};
 ghost use Rattle.setup_line.specs.SetupLine.{fields_of, decimal_value};
@@ -6,7 +7,7 @@ ghost use Rattle.rehearsal.specs.RehearsalLine.{digits_written, number_written, 
 use made_datagram::Values;
 
 // Whether a line says it: its fields are as they should be; it has over 512 bytes; it has neither 25 nor 39 fields; a field is no whole number.
-#[derive(Drop)]
+#[derive(Clone, Copy)]
 pub enum Rehearsed {
     Written,
     TooLong,

@@ -1,3 +1,4 @@
+#![tactic(auto)]
 // Where the first datagram of a setup lies in bytes (01, The scan).
 ghost use Rattle.std.specs.Prelude.{◌≡◌, ◌+◌, ◌≤◌, ltb, length, drop};
 ghost use Rattle.bytes.specs.Bytes.{index_of};
@@ -10,7 +11,7 @@ use setup::Sensor;
 
 // Where a scan that stops at its first datagram ends: where a complete one begins and how many bytes it has,
 // or from where on the bytes are undecided.
-#[derive(Drop)]
+#[derive(Clone, Copy)]
 pub enum Place {
     Complete(usize, usize),
     Undecided(usize),

@@ -1,3 +1,4 @@
+#![tactic(auto)]
 // A session, and opening one (01, The scan; What is turned down, 4 to 9).
 ghost use Rattle.std.specs.Prelude.{◌≡◌, min, take};
 ghost use Rattle.integers.specs.Buffers.{padded};
@@ -8,7 +9,7 @@ use history::History;
 use setup::{Ruling, Setup};
 
 // What is kept from call to call.
-#[derive(Drop)]
+#[derive(Clone, Copy)]
 pub struct Session {
     pub setup: Setup,
     // the bytes held, zeros behind them, and how many they are
@@ -21,7 +22,7 @@ pub struct Session {
 }
 
 // What opening gives back: the ruling on the setup, and a fresh session, one of zeros where the setup is refused.
-#[derive(Drop)]
+#[derive(Clone, Copy)]
 pub struct Opened {
     pub answer: Ruling,
     pub session: Session,

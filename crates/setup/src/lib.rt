@@ -1,3 +1,4 @@
+#![tactic(auto)]
 // The setup of a sensor: its values and the layout of its datagrams (01, The setup line, Layout by identifier).
 ghost use Rattle.std.specs.Prelude.{◌≡◌};
 ghost use Rattle.setup.specs.Layout.{row_with, row_at, groups_of};
@@ -5,7 +6,7 @@ ghost use Rattle.setup.specs.Setup.{rate_listed, is_listed, any_above, stray_gro
 ghost use Rattle.setup.specs.Sensor.{rate_of, unit_of, units_of, row_of, sensor_of, description_of};
 
 // What a datagram carries beside the gyro group, the counter and the latency (01, Layout by identifier).
-#[derive(Drop)]
+#[derive(Clone, Copy)]
 pub struct Row {
     pub acceleration: bool,
     pub inclination: bool,
@@ -14,14 +15,14 @@ pub struct Row {
 }
 
 // What the table says of an identifier.
-#[derive(Drop)]
+#[derive(Clone, Copy)]
 pub enum Listing {
     Listed(Row),
     Unlisted,
 }
 
 // The output unit of a group.
-#[derive(Drop)]
+#[derive(Clone, Copy)]
 pub enum Unit {
     Instantaneous,
     Incremental,
@@ -30,7 +31,7 @@ pub enum Unit {
 }
 
 // The sample rate.
-#[derive(Drop)]
+#[derive(Clone, Copy)]
 pub enum Rate {
     ExternalTrigger,
     Hertz125,
@@ -40,14 +41,14 @@ pub enum Rate {
     Hertz2000,
 }
 
-#[derive(Drop)]
+#[derive(Clone, Copy)]
 pub struct Units {
     pub gyro: Unit,
     pub accelerometer: Unit,
     pub inclinometer: Unit,
 }
 
-#[derive(Drop)]
+#[derive(Clone, Copy)]
 pub struct Shifts {
     pub gyro: u16,
     pub accelerometer: u16,
@@ -55,7 +56,7 @@ pub struct Shifts {
 }
 
 // What an accepted setup says of its sensor.
-#[derive(Drop)]
+#[derive(Clone, Copy)]
 pub struct Sensor {
     pub identifier: u8,
     pub row: Row,
@@ -67,14 +68,14 @@ pub struct Sensor {
 }
 
 // The sensor that an accepted setup describes, or the number that refuses the setup.
-#[derive(Drop)]
+#[derive(Clone, Copy)]
 pub enum Described {
     Accepted(Sensor),
     Refused(u8),
 }
 
 // A setup as values. The numbers are wide enough for every field of a line, so that each reaches its check unnarrowed.
-#[derive(Drop)]
+#[derive(Clone, Copy)]
 pub struct Setup {
     pub rate: u16,
     pub identifier: u8,
@@ -84,7 +85,7 @@ pub struct Setup {
     pub shifts: [u16; 3],
 }
 
-#[derive(Drop)]
+#[derive(Clone, Copy)]
 pub enum Ruling {
     Accepted,
     Refused(u8),

@@ -1,3 +1,4 @@
+#![tactic(auto)]
 // The line that writes a setup down (01, The setup line).
 ghost use Rattle.std.specs.Prelude.{◌≡◌, true, ◌+◌, ◌≤◌, ◌<◌, length, drop};
 ghost use Rattle.setup.specs.Setup.{zero_setup};
@@ -7,7 +8,7 @@ ghost use Rattle.setup_line.specs.SetupLine.{fields_of, field_at, is_hex_digit, 
 use setup::{Ruling, Setup};
 
 // What a line gives back: the ruling, and the setup that it writes, zeros where it is refused.
-#[derive(Drop)]
+#[derive(Clone, Copy)]
 pub struct LineRead {
     pub answer: Ruling,
     pub setup: Setup,

@@ -1,3 +1,4 @@
+#![tactic(auto)]
 // The special datagrams: which kind begins with a byte, how long it is, whether bytes are one (02, 2.7; 001, 5.5.1 to 5.5.5).
 ghost use Rattle.std.specs.Prelude.{◌≡◌, ◌||◌, ◌⊎◌, [], ◌∷◌, ◌+◌, ◌≤◌, eqb, length, take, drop};
 ghost use Rattle.integers.specs.Bytes.{big_endian};
@@ -7,7 +8,7 @@ ghost use Rattle.acceptance.specs.Acceptable.{same};
 ghost use Rattle.special.specs.Special.{fields_of, special_length, kind_at, is_special};
 
 // Which kind a datagram is.
-#[derive(Drop)]
+#[derive(Clone, Copy)]
 pub enum Kind {
     Normal,
     PartNumber,

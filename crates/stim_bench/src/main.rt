@@ -1,3 +1,4 @@
+#![tactic(auto)]
 // The bench program (01, The text line): standard input is a setup line and then the stream, standard output a text line for each datagram.
 ghost use Rattle.std.specs.Prelude.{◌≡◌, ◌+◌, ◌-◌, ◌≤◌, ◌<◌, min, length, take};
 ghost use Rattle.setup.specs.declared.Ruling.TheVariants.{Refused};
@@ -21,7 +22,7 @@ const SESSION_LIMIT: u64 = 17179869184;
 const ENOUGH: usize = 72000;
 
 // What one read gave.
-#[derive(Drop)]
+#[derive(Clone, Copy)]
 enum Got {
     Bytes(usize),
     End,
@@ -29,21 +30,21 @@ enum Got {
 }
 
 // The first bytes of the input, as many as were needed to know its first line.
-#[derive(Drop)]
+#[derive(Clone, Copy)]
 struct FirstBytes {
     filled: usize,
     last: Got,
 }
 
 // What a part that was fed leaves: the session, and how many bytes of lines stand at the front of the buffer.
-#[derive(Drop)]
+#[derive(Clone, Copy)]
 struct PartFed {
     session: Session,
     used: usize,
 }
 
 // The same of the first bytes of some that are to be fed, and how many bytes those are.
-#[derive(Drop)]
+#[derive(Clone, Copy)]
 struct Gathered {
     session: Session,
     taken: usize,
@@ -51,7 +52,7 @@ struct Gathered {
 }
 
 // What bytes that were fed leave: the session, and whether standard output took their lines.
-#[derive(Drop)]
+#[derive(Clone, Copy)]
 struct BytesFed {
     session: Session,
     is_open: bool,

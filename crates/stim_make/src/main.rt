@@ -1,3 +1,4 @@
+#![tactic(auto)]
 // Datagrams made here (02, 2.1): standard input is a setup line and then rehearsal lines, standard output a datagram for each. What is turned down of a
 // line is said on standard error, with the line's number.
 ghost use Rattle.std.specs.Prelude.{◌≡◌, true, ◌++◌, ◌+◌, ◌≤◌, ◌<◌, length, take};
@@ -21,7 +22,7 @@ const ENOUGH: usize = 65;
 const READS: u64 = 18446744073709551615;
 
 // What one read gave.
-#[derive(Drop)]
+#[derive(Clone, Copy)]
 enum Got {
     Bytes(usize),
     End,
@@ -29,7 +30,7 @@ enum Got {
 }
 
 // The line under way: its number, and its first bytes. One with 513 is too long, and what comes behind those of it isn't kept.
-#[derive(Drop)]
+#[derive(Clone, Copy)]
 struct Line {
     number: u64,
     used: usize,
@@ -37,7 +38,7 @@ struct Line {
 }
 
 // What bytes that were taken leave: how many they are, the line under way, and how many bytes of datagrams stand at the front of the buffer.
-#[derive(Drop)]
+#[derive(Clone, Copy)]
 struct Taken {
     taken: usize,
     line: Line,
@@ -45,14 +46,14 @@ struct Taken {
 }
 
 // What bytes leave: the line under way, and whether standard output took their datagrams.
-#[derive(Drop)]
+#[derive(Clone, Copy)]
 struct Fed {
     line: Line,
     is_open: bool,
 }
 
 // The setup line, and the bytes that came with its end: the rehearsal lines begin among them.
-#[derive(Drop)]
+#[derive(Clone, Copy)]
 struct FirstLine {
     line: Line,
     from: usize,

@@ -1,3 +1,4 @@
+#![tactic(auto)]
 // The text line of a datagram under a setup, written into a lent buffer (01, The text line).
 ghost use Rattle.std.specs.Prelude.{◌≡◌};
 ghost use Rattle.text.specs.TextLine.{shown_of, line_answer, line_buffer};

@@ -1,3 +1,4 @@
+#![tactic(auto)]
 // A text line, by which groups and totals are shown, written into a lent buffer (01, The text line).
 ghost use Rattle.std.specs.Prelude.{◌≡◌, ◌∷◌, ◌+◌, ◌<◌, ◌≤◌, length};
 ghost use Rattle.shown_line.specs.Decimal.{digits, decimal, last_three};
@@ -12,7 +13,7 @@ use motion::{GroupTotals, Total, Totals};
 use shown_line::{Shown, Written};
 
 // The fields before the groups.
-#[derive(Drop)]
+#[derive(Clone, Copy)]
 struct Heading {
     ordinal: Datagrams,
     counter: u8,

@@ -1,3 +1,4 @@
+#![tactic(auto)]
 // What stands in a datagram: its fields, their places and its length (01, Layout by identifier).
 ghost use Rattle.std.specs.Prelude.{◌≡◌, cond, [], ◌∷◌, map, ◌+◌, ◌≤◌, get_or};
 ghost use Rattle.integers.specs.Bytes.{big_endian, signed_bytes};
@@ -8,7 +9,7 @@ ghost use Rattle.wire.specs.Places.{groups_end, temperatures_end, fields_at, byt
 use setup::Row;
 
 // What stands in a datagram beside its readings; 0 for what it doesn't carry.
-#[derive(Drop)]
+#[derive(Clone, Copy)]
 pub struct Fields {
     // gyro, accelerometer, inclinometer
     pub statuses: [u8; 3],

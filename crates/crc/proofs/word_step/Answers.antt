@@ -1,0 +1,14 @@
+-- `crc::word_step` meets its contract: the wide register moves as the one that it stands for.
+-- Assumes nothing.
+use mathlib.Core.Path.{ap, ◌∙◌}
+use borrow.Author.Rules.{rules}
+use Rattle.crc.specs.Wide.{remainder}
+use Rattle.crc.proofs.FourBytes.{wide_four}
+use Rattle.crc.proofs.word_step.Goals as goal
+
+pub returns : goal.returns
+returns c =
+    let a = c.args in
+    let f = c.ranges in
+    ap remainder c.word_shifts.ensures
+    ∙ wide_four a.first a.second a.third a.fourth f.first.fits f.second.fits f.third.fits f.fourth.fits a.c f.c.fits
