@@ -329,7 +329,7 @@ fn lines_apart(session: Session, known: LookedUp, piece: &[u8], buffer: &mut [u8
                 return refuse(session, 14);
             }
             Batch {
-                answer: Received::Lines(bytes::copy(&apart[..used], buffer)),
+                answer: Received::Lines(byte_slices::copy(&apart[..used], buffer)),
                 session: after,
             }
         }

@@ -26,7 +26,7 @@ fn put(buffer: [u8; 128], place: usize, bytes: &[u8]) -> [u8; 128]
     ensures { result ≡ sets buffer place bytes.now }
 {
     let mut written = buffer;
-    bytes::copy(bytes, &mut written[place..]);
+    byte_slices::copy(bytes, &mut written[place..]);
     written
 }
 

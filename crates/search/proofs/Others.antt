@@ -10,7 +10,7 @@ use borrow.Author.Tests.{lt-ltb, le-ltb}
 use lib.Dec.{eqb, ltb}
 use lib.ListN.{length, drop, get_or}
 use lib.Seq.{drop-drop}
-use Rattle.bytes.specs.Bytes.{index_after, index_of}
+use Rattle.byte_slices.specs.ByteSlices.{index_after, index_of}
 use Rattle.scan.specs.Scan.{First, first, later}
 use Rattle.scan.specs.Front.{front}
 use Rattle.scan.specs.OneLength.{one_candidate}

@@ -1,7 +1,7 @@
 #![tactic(auto)]
 // Where the first datagram of a setup lies in bytes (01, The scan).
 ghost use Rattle.std.specs.Prelude.{◌≡◌, ◌+◌, ◌≤◌, ltb, length, drop};
-ghost use Rattle.bytes.specs.Bytes.{index_of};
+ghost use Rattle.byte_slices.specs.ByteSlices.{index_of};
 ghost use Rattle.setup.specs.Layout.{layout_of};
 ghost use Rattle.acceptance.specs.Acceptable.{acceptable_in};
 ghost use Rattle.scan.specs.Scan.{first};
@@ -72,7 +72,7 @@ fn next_place(byte: u8, bytes: &[u8], from: usize) -> usize
     ensures { result ≡ from + index_of byte (drop from bytes.now) }
 {
     let near = near_place(byte, bytes, from);
-    bytes::scan::find(bytes, near, bytes.len(), byte)
+    byte_slices::find(bytes, near, byte)
 }
 
 // The scan of bytes up to their first datagram (01, The scan).

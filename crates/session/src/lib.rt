@@ -41,7 +41,7 @@ fn held_array(bytes: &[u8]) -> [u8; 64]
 {
     let count = fitting(bytes.len());
     let mut held = [0u8; 64];
-    bytes::copy(&bytes[..count], &mut held);
+    byte_slices::copy(&bytes[..count], &mut held);
     held
 }
 

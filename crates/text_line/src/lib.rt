@@ -298,7 +298,7 @@ fn copy_line(buffer: &mut [u8], line: &[u8]) -> Written
     if buffer.len() < line.len() {
         return Written::Refused(14);
     }
-    Written::Line(bytes::copy(line, buffer))
+    Written::Line(byte_slices::copy(line, buffer))
 }
 
 // A line for a buffer that may be too short for it: written elsewhere first.

@@ -11,7 +11,7 @@ use lib.Seq.{length-take-le}
 use Rattle.integers.specs.Bytes.{AllBytes}
 use Rattle.integers.proofs.Bytes.{bytes_take, bytes_drop}
 use Rattle.integers.proofs.Buffers.{part_of}
-use Rattle.bytes.specs.Bytes.{index_of}
+use Rattle.byte_slices.specs.ByteSlices.{index_of}
 use Rattle.setup.specs.Layout.{layout_of}
 use Rattle.setup.specs.declared.Sensor.{Sensor}
 use Rattle.setup.proofs.Layouts.{length_range}

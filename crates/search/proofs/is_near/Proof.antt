@@ -7,7 +7,7 @@ use borrow.Author.Tests.{le-ltb}
 use lib.Dec.{ltb}
 use lib.ListN.{drop, length-drop}
 use lib.Seq.{get_or-drop}
-use Rattle.bytes.specs.Bytes.{index_of}
+use Rattle.byte_slices.specs.ByteSlices.{index_of}
 use Rattle.search.proofs.Others.{among_more}
 use Rattle.search.proofs.is_near.Statement.{statement}
 use Rattle.search.proofs.is_near.Tie as tie

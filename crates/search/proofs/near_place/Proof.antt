@@ -4,7 +4,7 @@ use mathlib.Core.Path.{◌≡◌, refl, sym, ◌∙◌}
 use native.Mathlib.Omega.{arith}
 use borrow.Author.Tests.{ltb-false}
 use lib.ListN.{length, drop}
-use Rattle.bytes.specs.Bytes.{index_of}
+use Rattle.byte_slices.specs.ByteSlices.{index_of}
 use Rattle.search.proofs.Others.{index_onward}
 use Rattle.search.proofs.near_place.Statement.{statement}
 use Rattle.search.proofs.near_place.Tie as tie

@@ -5,7 +5,7 @@ use mathlib.Core.List.{List}
 use borrow.Author.Rules.{rules}
 use lib.ListN.{length, drop}
 use lib.Seq.{take-length}
-use Rattle.bytes.specs.Bytes.{slice, index_of}
+use Rattle.byte_slices.specs.ByteSlices.{slice, index_of}
 use Rattle.search.proofs.next_place.Statement.{statement}
 use Rattle.search.proofs.next_place.Tie as tie
 
