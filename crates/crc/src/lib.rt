@@ -129,11 +129,3 @@ pub fn crc32(s: &[u8]) -> u32
     }
     remainder_of(last_step(check, s, i))
 }
-
-// `crc32` for Rust, which times it (timing/crc).
-#[unsafe(no_mangle)]
-pub extern "C" fn nalvezik_crc32(s: &[u8]) -> u32
-    ensures { result ≡ check32 s.now }
-{
-    crc32(s)
-}
