@@ -61,6 +61,10 @@ def declared():
             if own and (MADE.search(line) or name.startswith(("invariant-", "decreases-", "measure-"))):
                 continue
             found.setdefault(name, set()).add(path)
+        # the constructors of a type, several in a line
+        for m in re.finditer(r"(?m)^ +((?:[a-z]\w* ){2,}[a-z]\w*) : [A-Z]\w*$", read(path)):
+            for name in m[1].split():
+                found.setdefault(name, set()).add(path)
         for m in re.finditer(r"(?m)^ *(?:abbrev )?(?:pub )?(?:unfoldable )?(?:pub )?([^\s(){}.;,@\"«»:=λ]+)(?= :\n|:$| :$)", read(path)):
             if not (own and "tie." in read(path)[m.end() : m.end() + 120].split("\n")[1] if "\n" in read(path)[m.end() : m.end() + 120] else False):
                 found.setdefault(m[1], set()).add(path)

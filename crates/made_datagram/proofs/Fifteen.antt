@@ -14,7 +14,7 @@ use Rattle.integers.specs.Ranges.{is_zero, least, greatest, fits}
 use Rattle.integers.proofs.Booleans.{or_split, and_split, and_true}
 use Rattle.integers.proofs.Parts.{le_z_true, le_le_z, parts_le, le_parts}
 use Rattle.integers.proofs.Ranges.{is_zero_true}
-use Rattle.setup.specs.Layout.{Part, identifier, gyro, accelerometer, inclinometer, gyroTemperatures, accelerometerTemperatures, inclinometerTemperatures}
+use Rattle.setup.specs.Layout.{Part, identifier, gyro, accelerometer, inclinometer, gyro_temperatures, accelerometer_temperatures, inclinometer_temperatures}
 use Rattle.setup.specs.Layout.{aux, counter, latency, widths, place, parts_at, carries}
 use Rattle.setup.specs.declared.Setup.{Setup}
 use Rattle.setup.proofs.Refusals.{each}
@@ -131,16 +131,16 @@ module _ (u : Setup) (readings : List (List ℤ)) (v : Values) where
         (axes_pass inclinometer (get_or readings 2 []) (get_or v.statuses 2 (pos 0)) 3 refl refl refl refl)
 
     set_passes : (g : ℕ) → g < 3
-        → ((a : ℕ) → a < 3 → Passes u (get_or temperature_sets g gyroTemperatures) (negsuc 32767) (pos 32767) (get_or (temperatures_of v g) a (pos 0)))
-        × Passes u (get_or temperature_sets g gyroTemperatures) (pos 0) (pos 255) (get_or v.temperature_statuses g (pos 0))
+        → ((a : ℕ) → a < 3 → Passes u (get_or temperature_sets g gyro_temperatures) (negsuc 32767) (pos 32767) (get_or (temperatures_of v g) a (pos 0)))
+        × Passes u (get_or temperature_sets g gyro_temperatures) (pos 0) (pos 255) (get_or v.temperature_statuses g (pos 0))
     unfolding given
     set_passes =
         each
-        (λ (g : ℕ). ((a : ℕ) → a < 3 → Passes u (get_or temperature_sets g gyroTemperatures) (negsuc 32767) (pos 32767) (get_or (temperatures_of v g) a (pos 0)))
-        × Passes u (get_or temperature_sets g gyroTemperatures) (pos 0) (pos 255) (get_or v.temperature_statuses g (pos 0)))
-        (axes_pass gyroTemperatures v.gyro_temperatures (get_or v.temperature_statuses 0 (pos 0)) 2 refl refl refl refl)
-        (axes_pass accelerometerTemperatures v.accelerometer_temperatures (get_or v.temperature_statuses 1 (pos 0)) 2 refl refl refl refl)
-        (axes_pass inclinometerTemperatures v.inclinometer_temperatures (get_or v.temperature_statuses 2 (pos 0)) 2 refl refl refl refl)
+        (λ (g : ℕ). ((a : ℕ) → a < 3 → Passes u (get_or temperature_sets g gyro_temperatures) (negsuc 32767) (pos 32767) (get_or (temperatures_of v g) a (pos 0)))
+        × Passes u (get_or temperature_sets g gyro_temperatures) (pos 0) (pos 255) (get_or v.temperature_statuses g (pos 0)))
+        (axes_pass gyro_temperatures v.gyro_temperatures (get_or v.temperature_statuses 0 (pos 0)) 2 refl refl refl refl)
+        (axes_pass accelerometer_temperatures v.accelerometer_temperatures (get_or v.temperature_statuses 1 (pos 0)) 2 refl refl refl refl)
+        (axes_pass inclinometer_temperatures v.inclinometer_temperatures (get_or v.temperature_statuses 2 (pos 0)) 2 refl refl refl refl)
 
     pub inside_passes : PassesFifteen u readings v
     unfolding given
@@ -163,7 +163,7 @@ module _ (u : Setup) (readings : List (List ℤ)) (v : Values) where
     group_all g k = (h.reading g 0 k (omega arith), (h.reading g 1 k (omega arith), (h.reading g 2 k (omega arith), (h.status g k, tt))))
 
     set_all : (g : ℕ) → g < 3
-        → AllPass u (get_or temperature_sets g gyroTemperatures) (signed ∷ signed ∷ signed ∷ unsigned ∷ []) (2 ∷ 2 ∷ 2 ∷ 1 ∷ [])
+        → AllPass u (get_or temperature_sets g gyro_temperatures) (signed ∷ signed ∷ signed ∷ unsigned ∷ []) (2 ∷ 2 ∷ 2 ∷ 1 ∷ [])
         (axes_and_status (temperatures_of v g) (get_or v.temperature_statuses g (pos 0)))
     set_all g k = (h.temperature g 0 k (omega arith), (h.temperature g 1 k (omega arith), (h.temperature g 2 k (omega arith), (h.temperature_status g k, tt))))
 
@@ -173,9 +173,9 @@ module _ (u : Setup) (readings : List (List ℤ)) (v : Values) where
     each_part gyro n = part_inside u gyro (values gyro) refl refl (group_all 0 (omega arith))
     each_part accelerometer n = part_inside u accelerometer (values accelerometer) refl refl (group_all 1 (omega arith))
     each_part inclinometer n = part_inside u inclinometer (values inclinometer) refl refl (group_all 2 (omega arith))
-    each_part gyroTemperatures n = part_inside u gyroTemperatures (values gyroTemperatures) refl refl (set_all 0 (omega arith))
-    each_part accelerometerTemperatures n = part_inside u accelerometerTemperatures (values accelerometerTemperatures) refl refl (set_all 1 (omega arith))
-    each_part inclinometerTemperatures n = part_inside u inclinometerTemperatures (values inclinometerTemperatures) refl refl (set_all 2 (omega arith))
+    each_part gyro_temperatures n = part_inside u gyro_temperatures (values gyro_temperatures) refl refl (set_all 0 (omega arith))
+    each_part accelerometer_temperatures n = part_inside u accelerometer_temperatures (values accelerometer_temperatures) refl refl (set_all 1 (omega arith))
+    each_part inclinometer_temperatures n = part_inside u inclinometer_temperatures (values inclinometer_temperatures) refl refl (set_all 2 (omega arith))
     each_part aux n = part_inside u aux (values aux) refl refl (h.aux_value, (h.aux_status_lem, tt))
     each_part counter n = part_inside u counter (values counter) refl refl (h.counter_value, tt)
     each_part latency n = part_inside u latency (values latency) refl refl (h.latency_value, tt)

@@ -13,8 +13,8 @@ use Rattle.integers.specs.Ranges.{is_zero, fits}
 use Rattle.integers.proofs.Booleans.{or_split}
 use Rattle.integers.proofs.Ranges.{is_zero_true}
 use Rattle.integers.proofs.Values.{value_bytes_length, value_read, value_fits, value_again}
-use Rattle.setup.specs.Layout.{Part, identifier, gyro, accelerometer, inclinometer, gyroTemperatures, accelerometerTemperatures}
-use Rattle.setup.specs.Layout.{inclinometerTemperatures, aux, counter, latency, widths, bytes, place, carries, offset}
+use Rattle.setup.specs.Layout.{Part, identifier, gyro, accelerometer, inclinometer, gyro_temperatures, accelerometer_temperatures}
+use Rattle.setup.specs.Layout.{inclinometer_temperatures, aux, counter, latency, widths, bytes, place, carries, offset}
 use Rattle.wire.specs.Fields.{cut, fields_of_part, axes, status, signed_field, unsigned_field, contents}
 use Rattle.wire.proofs.FieldPlaces.{window_length, window_bytes}
 use Rattle.made_datagram.specs.declared.Values.{Values}
@@ -92,9 +92,9 @@ part_wide identifier = (omega arith, tt)
 part_wide gyro = (omega arith, (omega arith, (omega arith, (omega arith, tt))))
 part_wide accelerometer = (omega arith, (omega arith, (omega arith, (omega arith, tt))))
 part_wide inclinometer = (omega arith, (omega arith, (omega arith, (omega arith, tt))))
-part_wide gyroTemperatures = (omega arith, (omega arith, (omega arith, (omega arith, tt))))
-part_wide accelerometerTemperatures = (omega arith, (omega arith, (omega arith, (omega arith, tt))))
-part_wide inclinometerTemperatures = (omega arith, (omega arith, (omega arith, (omega arith, tt))))
+part_wide gyro_temperatures = (omega arith, (omega arith, (omega arith, (omega arith, tt))))
+part_wide accelerometer_temperatures = (omega arith, (omega arith, (omega arith, (omega arith, tt))))
+part_wide inclinometer_temperatures = (omega arith, (omega arith, (omega arith, (omega arith, tt))))
 part_wide aux = (omega arith, (omega arith, tt))
 part_wide counter = (omega arith, tt)
 part_wide latency = (omega arith, tt)
@@ -105,9 +105,9 @@ signs_widths identifier = refl
 signs_widths gyro = refl
 signs_widths accelerometer = refl
 signs_widths inclinometer = refl
-signs_widths gyroTemperatures = refl
-signs_widths accelerometerTemperatures = refl
-signs_widths inclinometerTemperatures = refl
+signs_widths gyro_temperatures = refl
+signs_widths accelerometer_temperatures = refl
+signs_widths inclinometer_temperatures = refl
 signs_widths aux = refl
 signs_widths counter = refl
 signs_widths latency = refl
@@ -119,9 +119,9 @@ given_length i readings v identifier = refl
 given_length i readings v gyro = refl
 given_length i readings v accelerometer = refl
 given_length i readings v inclinometer = refl
-given_length i readings v gyroTemperatures = refl
-given_length i readings v accelerometerTemperatures = refl
-given_length i readings v inclinometerTemperatures = refl
+given_length i readings v gyro_temperatures = refl
+given_length i readings v accelerometer_temperatures = refl
+given_length i readings v inclinometer_temperatures = refl
 given_length i readings v aux = refl
 given_length i readings v counter = refl
 given_length i readings v latency = refl
@@ -228,9 +228,9 @@ module _ (i : ℕ) (ps : List Part) (s : List ℕ) where
   given_read gyro e = axes_read (carries ps gyro) 3 (offset ps gyro) s
   given_read accelerometer e = axes_read (carries ps accelerometer) 3 (offset ps accelerometer) s
   given_read inclinometer e = axes_read (carries ps inclinometer) 3 (offset ps inclinometer) s
-  given_read gyroTemperatures e = axes_read (carries ps gyroTemperatures) 2 (offset ps gyroTemperatures) s
-  given_read accelerometerTemperatures e = axes_read (carries ps accelerometerTemperatures) 2 (offset ps accelerometerTemperatures) s
-  given_read inclinometerTemperatures e = axes_read (carries ps inclinometerTemperatures) 2 (offset ps inclinometerTemperatures) s
+  given_read gyro_temperatures e = axes_read (carries ps gyro_temperatures) 2 (offset ps gyro_temperatures) s
+  given_read accelerometer_temperatures e = axes_read (carries ps accelerometer_temperatures) 2 (offset ps accelerometer_temperatures) s
+  given_read inclinometer_temperatures e = axes_read (carries ps inclinometer_temperatures) 2 (offset ps inclinometer_temperatures) s
   given_read aux e = aux_read (carries ps aux) (offset ps aux) s
   given_read counter e = number_read (carries ps counter) 1 (offset ps counter) s
   given_read latency e = number_read (carries ps latency) 2 (offset ps latency) s

@@ -12,8 +12,8 @@ use Rattle.integers.specs.Bytes.{AllBytes, in_bytes, value_bytes, joined}
 use Rattle.integers.proofs.Booleans.{or_split}
 use Rattle.integers.proofs.Bytes.{bytes_nil, bytes_append}
 use Rattle.integers.proofs.Values.{value_bytes_bytes}
-use Rattle.setup.specs.Layout.{Part, identifier, gyro, accelerometer, inclinometer, gyroTemperatures, accelerometerTemperatures}
-use Rattle.setup.specs.Layout.{inclinometerTemperatures, aux, counter, latency, widths, bytes, place, carries, parts_of, row_at}
+use Rattle.setup.specs.Layout.{Part, identifier, gyro, accelerometer, inclinometer, gyro_temperatures, accelerometer_temperatures}
+use Rattle.setup.specs.Layout.{inclinometer_temperatures, aux, counter, latency, widths, bytes, place, carries, parts_of, row_at}
 use Rattle.setup.specs.Setup.{ruling_on, terminated, length_of}
 use Rattle.setup.specs.declared.Row.{Row}
 use Rattle.setup.specs.declared.Listing.TheVariants.{Listed}
@@ -52,9 +52,9 @@ given_carried identifier e = let z : ◌≡◌ {A = ℕ} 0 1 = cc in absurd (ome
 given_carried gyro e = refl
 given_carried accelerometer e = refl
 given_carried inclinometer e = refl
-given_carried gyroTemperatures e = refl
-given_carried accelerometerTemperatures e = refl
-given_carried inclinometerTemperatures e = refl
+given_carried gyro_temperatures e = refl
+given_carried accelerometer_temperatures e = refl
+given_carried inclinometer_temperatures e = refl
 given_carried aux e = refl
 given_carried counter e = refl
 given_carried latency e = refl
@@ -71,9 +71,9 @@ module _ (ps : List Part) (values : Part → List ℤ) where
         h gyro refl,
         h accelerometer refl,
         h inclinometer refl,
-        h gyroTemperatures refl,
-        h accelerometerTemperatures refl,
-        h inclinometerTemperatures refl,
+        h gyro_temperatures refl,
+        h accelerometer_temperatures refl,
+        h inclinometer_temperatures refl,
         h aux refl,
         h counter refl,
         h latency refl,
@@ -240,10 +240,10 @@ module _
       let one = group gyro refl 0 (omega arith) refl refl in
       let two = group accelerometer refl 1 (omega arith) refl refl in
       let other = group inclinometer refl 2 (omega arith) refl refl in
-      let warm = row_same gyroTemperatures refl w.gyro_temperatures v.gyro_temperatures alike.gyro_temperatures shaped.gyro_temperatures refl refl in
-      let warmer = row_same accelerometerTemperatures refl w.accelerometer_temperatures v.accelerometer_temperatures
+      let warm = row_same gyro_temperatures refl w.gyro_temperatures v.gyro_temperatures alike.gyro_temperatures shaped.gyro_temperatures refl refl in
+      let warmer = row_same accelerometer_temperatures refl w.accelerometer_temperatures v.accelerometer_temperatures
       alike.accelerometer_temperatures shaped.accelerometer_temperatures refl refl in
-      let warmest = row_same inclinometerTemperatures refl w.inclinometer_temperatures v.inclinometer_temperatures
+      let warmest = row_same inclinometer_temperatures refl w.inclinometer_temperatures v.inclinometer_temperatures
       alike.inclinometer_temperatures shaped.inclinometer_temperatures refl refl in
       let statuses = threes_same (pos 0) w.statuses v.statuses alike.statuses shaped.statuses one.1 two.1 other.1 in
       let sets = threes_same (pos 0) w.temperature_statuses v.temperature_statuses alike.temperature_statuses_lem shaped.temperature_statuses_lem warm.1 warmer.1 warmest.1 in

@@ -4,8 +4,8 @@ use Rattle.std.specs.Prelude.{ℕ, Bool, false, not, ◌||◌, cond, List, [], �
 use Rattle.std.proofs.Math.Option.{Option, none, some}
 use Rattle.integers.specs.Bytes.{Sign, signed, unsigned, value_bytes, joined}
 use Rattle.integers.specs.Ranges.{is_zero, fits}
-use Rattle.setup.specs.Layout.{Part, identifier, gyro, accelerometer, inclinometer, gyroTemperatures, accelerometerTemperatures}
-use Rattle.setup.specs.Layout.{inclinometerTemperatures, aux, counter, latency, widths, Layout, layout_of, row_at, parts_at, carries}
+use Rattle.setup.specs.Layout.{Part, identifier, gyro, accelerometer, inclinometer, gyro_temperatures, accelerometer_temperatures}
+use Rattle.setup.specs.Layout.{inclinometer_temperatures, aux, counter, latency, widths, Layout, layout_of, row_at, parts_at, carries}
 use Rattle.setup.specs.Setup.{Rule, rule, first_of, buffer_by, setup_rules, terminated, length_of}
 use Rattle.setup.specs.Sensor.{row_of}
 use Rattle.setup.specs.declared.Setup.{Setup}
@@ -30,9 +30,9 @@ given i readings v identifier = pos i ∷ []
 given i readings v gyro = axes_and_status (get_or readings 0 []) (get_or v.statuses 0 (pos 0))
 given i readings v accelerometer = axes_and_status (get_or readings 1 []) (get_or v.statuses 1 (pos 0))
 given i readings v inclinometer = axes_and_status (get_or readings 2 []) (get_or v.statuses 2 (pos 0))
-given i readings v gyroTemperatures = axes_and_status v.gyro_temperatures (get_or v.temperature_statuses 0 (pos 0))
-given i readings v accelerometerTemperatures = axes_and_status v.accelerometer_temperatures (get_or v.temperature_statuses 1 (pos 0))
-given i readings v inclinometerTemperatures = axes_and_status v.inclinometer_temperatures (get_or v.temperature_statuses 2 (pos 0))
+given i readings v gyro_temperatures = axes_and_status v.gyro_temperatures (get_or v.temperature_statuses 0 (pos 0))
+given i readings v accelerometer_temperatures = axes_and_status v.accelerometer_temperatures (get_or v.temperature_statuses 1 (pos 0))
+given i readings v inclinometer_temperatures = axes_and_status v.inclinometer_temperatures (get_or v.temperature_statuses 2 (pos 0))
 given i readings v aux = v.aux ∷ v.aux_status ∷ []
 given i readings v counter = v.counter ∷ []
 given i readings v latency = v.latency ∷ []
@@ -88,9 +88,9 @@ signs identifier = unsigned ∷ []
 signs gyro = signed ∷ signed ∷ signed ∷ unsigned ∷ []
 signs accelerometer = signed ∷ signed ∷ signed ∷ unsigned ∷ []
 signs inclinometer = signed ∷ signed ∷ signed ∷ unsigned ∷ []
-signs gyroTemperatures = signed ∷ signed ∷ signed ∷ unsigned ∷ []
-signs accelerometerTemperatures = signed ∷ signed ∷ signed ∷ unsigned ∷ []
-signs inclinometerTemperatures = signed ∷ signed ∷ signed ∷ unsigned ∷ []
+signs gyro_temperatures = signed ∷ signed ∷ signed ∷ unsigned ∷ []
+signs accelerometer_temperatures = signed ∷ signed ∷ signed ∷ unsigned ∷ []
+signs inclinometer_temperatures = signed ∷ signed ∷ signed ∷ unsigned ∷ []
 signs aux = signed ∷ unsigned ∷ []
 signs counter = unsigned ∷ []
 signs latency = unsigned ∷ []
@@ -114,7 +114,7 @@ part_outside carried p zs = cond carried (any_outside (signs p) (widths p) zs) (
 -- the parts that values are given for
 abbrev pub given_parts : List Part
 given_parts =
-    gyro ∷ accelerometer ∷ inclinometer ∷ gyroTemperatures ∷ accelerometerTemperatures ∷ inclinometerTemperatures ∷ aux ∷ counter ∷ latency ∷ []
+    gyro ∷ accelerometer ∷ inclinometer ∷ gyro_temperatures ∷ accelerometer_temperatures ∷ inclinometer_temperatures ∷ aux ∷ counter ∷ latency ∷ []
 
 abbrev pub any_of : (Part → Bool) → List Part → Bool
 any_of test [] = false

@@ -1,6 +1,6 @@
 -- 02, 2.1, 15: what it asks of the values of a datagram, clause by clause, as facts and not as tests. Group g is counted from 0.
 use Rattle.std.specs.Prelude.{ℕ, ◌<◌, true, false, List, [], ◌∷◌, ◌≡◌, ℤ, pos, negsuc, get_or, ◌≤ℤ◌}
-use Rattle.setup.specs.Layout.{Part, gyro, gyroTemperatures, aux, counter, latency, parts_at, carries}
+use Rattle.setup.specs.Layout.{Part, gyro, gyro_temperatures, aux, counter, latency, parts_at, carries}
 use Rattle.setup.specs.declared.Setup.{Setup}
 use Rattle.wire.specs.Fields.{groups, temperature_sets}
 use Rattle.made_datagram.specs.declared.Values.{Values}
@@ -26,9 +26,9 @@ pub record PassesFifteen (u : Setup) (readings : List (List ℤ)) (v : Values) :
   -- temperatures in 16 bits, their statuses in 8
   pub temperature :
       (g a : ℕ) → g < 3 → a < 3
-      → Passes u (get_or temperature_sets g gyroTemperatures) (negsuc 32767) (pos 32767) (get_or (temperatures_of v g) a (pos 0))
+      → Passes u (get_or temperature_sets g gyro_temperatures) (negsuc 32767) (pos 32767) (get_or (temperatures_of v g) a (pos 0))
   pub temperature_status :
-      (g : ℕ) → g < 3 → Passes u (get_or temperature_sets g gyroTemperatures) (pos 0) (pos 255) (get_or v.temperature_statuses g (pos 0))
+      (g : ℕ) → g < 3 → Passes u (get_or temperature_sets g gyro_temperatures) (pos 0) (pos 255) (get_or v.temperature_statuses g (pos 0))
   -- AUX in 24 bits, its status in 8
   pub aux_value : Passes u aux (negsuc 8388607) (pos 8388607) v.aux
   pub aux_status_lem : Passes u aux (pos 0) (pos 255) v.aux_status

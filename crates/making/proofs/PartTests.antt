@@ -7,7 +7,7 @@ use lib.IntN.{ℤ, pos}
 use lib.ListN.{get_or}
 use Rattle.integers.specs.Bytes.{signed, unsigned}
 use Rattle.integers.specs.Ranges.{is_zero, fits}
-use Rattle.setup.specs.Layout.{Part, gyro, accelerometer, inclinometer, gyroTemperatures, accelerometerTemperatures, inclinometerTemperatures}
+use Rattle.setup.specs.Layout.{Part, gyro, accelerometer, inclinometer, gyro_temperatures, accelerometer_temperatures, inclinometer_temperatures}
 use Rattle.setup.specs.Layout.{aux, counter, latency, parts_of, carries}
 use Rattle.setup.specs.declared.Row.{Row}
 use Rattle.setup.proofs.Rows.{every_row}
@@ -91,6 +91,6 @@ all_tests i r readings v =
     let test : Part → Bool → Bool = λ p c. part_outside c p (given i readings v p) in
     let is : (k : ℕ) → get_or (carried_in r) k false ≡ get_or (carried_by r) k false = λ k. ap (λ (bs : List Bool). get_or bs k false) (row_carries r) in
     rw (is 0, is 1, is 2, is 3, is 4, is 5, is 6, is 7, is 8)
-    (nine_tests (test gyro true) (test accelerometer r.acceleration) (test inclinometer r.inclination) (test gyroTemperatures r.temperatures)
-    (test accelerometerTemperatures (r.temperatures && r.acceleration)) (test inclinometerTemperatures (r.temperatures && r.inclination))
+    (nine_tests (test gyro true) (test accelerometer r.acceleration) (test inclinometer r.inclination) (test gyro_temperatures r.temperatures)
+    (test accelerometer_temperatures (r.temperatures && r.acceleration)) (test inclinometer_temperatures (r.temperatures && r.inclination))
     (test aux r.aux) (not (fits unsigned 1 v.counter)) (not (fits unsigned 2 v.latency)))

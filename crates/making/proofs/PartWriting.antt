@@ -13,8 +13,8 @@ use Rattle.integers.specs.Buffers.{Put}
 use Rattle.integers.specs.Bytes.{value_bytes, joined}
 use Rattle.integers.proofs.Buffers.{put_none, put_length}
 use Rattle.integers.proofs.Values.{value_bytes_length}
-use Rattle.setup.specs.Layout.{Part, gyro, accelerometer, inclinometer, gyroTemperatures, accelerometerTemperatures}
-use Rattle.setup.specs.Layout.{inclinometerTemperatures, aux, counter, latency, widths, only, group_parts, temperature_parts, parts_of}
+use Rattle.setup.specs.Layout.{Part, gyro, accelerometer, inclinometer, gyro_temperatures, accelerometer_temperatures}
+use Rattle.setup.specs.Layout.{inclinometer_temperatures, aux, counter, latency, widths, only, group_parts, temperature_parts, parts_of}
 use Rattle.setup.specs.declared.Row.{Row}
 use Rattle.made_datagram.specs.Making.{axes_and_status, given, fields_for, in_turn, parts_with}
 use Rattle.making.specs.Writing.{axes_bytes, aux_bytes, groups_bytes, temperatures_bytes}
@@ -114,10 +114,10 @@ module _ (i : ℕ) (readings : List (List ℤ)) (v : Values) where
   temperatures_in_turn r = by r.temperatures
     where
       by : (t : Bool)
-          → in_turn fields (only t (gyroTemperatures ∷ only r.acceleration (accelerometerTemperatures ∷ []) ++ only r.inclination (inclinometerTemperatures ∷ [])))
-          ≡ cond t (joined (fields gyroTemperatures)) []
-          ++ (cond (t && r.acceleration) (joined (fields accelerometerTemperatures)) [] ++ cond (t && r.inclination) (joined (fields inclinometerTemperatures)) [])
-      by true = three_in_turn gyroTemperatures accelerometerTemperatures inclinometerTemperatures r.acceleration r.inclination
+          → in_turn fields (only t (gyro_temperatures ∷ only r.acceleration (accelerometer_temperatures ∷ []) ++ only r.inclination (inclinometer_temperatures ∷ [])))
+          ≡ cond t (joined (fields gyro_temperatures)) []
+          ++ (cond (t && r.acceleration) (joined (fields accelerometer_temperatures)) [] ++ cond (t && r.inclination) (joined (fields inclinometer_temperatures)) [])
+      by true = three_in_turn gyro_temperatures accelerometer_temperatures inclinometer_temperatures r.acceleration r.inclination
       by false = refl
 
   aux_in_turn : (r : Row) → in_turn fields (only r.aux (aux ∷ [])) ≡ aux_bytes r.aux v.aux v.aux_status

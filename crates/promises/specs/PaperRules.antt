@@ -7,7 +7,7 @@ use Rattle.integers.specs.Folding.{fold}
 use Rattle.integers.specs.Ranges.{in_reading}
 use Rattle.integers.specs.Rounding.{floor}
 use Rattle.crc.specs.Check.{stim300, check_of}
-use Rattle.setup.specs.Layout.{gyro, gyroTemperatures, aux, table, parts_at, carries}
+use Rattle.setup.specs.Layout.{gyro, gyro_temperatures, aux, table, parts_at, carries}
 use Rattle.setup.specs.Setup.{setup_number, length_of}
 use Rattle.setup.specs.AcceptedSetup.{line_of_table, PassesNine}
 use Rattle.setup.specs.declared.Setup.{Setup}
@@ -58,7 +58,7 @@ pub record PaperRules : Type 0 where
       (i : ℕ) (d : List ℕ) (g : ℕ) → g < 3 → carries (parts_at i) (get_or groups g gyro) ≡ false
       → (get_or (fields_of i d).readings g [] ≡ replicate 3 (pos 0)) × (get_or (fields_of i d).statuses g 0 ≡ 0)
   pub absent_temperatures :
-      (i : ℕ) (d : List ℕ) (g : ℕ) → g < 3 → carries (parts_at i) (get_or temperature_sets g gyroTemperatures) ≡ false
+      (i : ℕ) (d : List ℕ) (g : ℕ) → g < 3 → carries (parts_at i) (get_or temperature_sets g gyro_temperatures) ≡ false
       → (get_or (fields_of i d).temperatures g [] ≡ replicate 3 (pos 0)) × (get_or (fields_of i d).temperature_statuses g 0 ≡ 0)
   pub absent_aux : (i : ℕ) (d : List ℕ) → carries (parts_at i) aux ≡ false → ((fields_of i d).aux ≡ pos 0) × ((fields_of i d).aux_status ≡ 0)
   -- an acceptable datagram is made up so, what is made up so is one, and there is one for every setup that is not refused

@@ -8,8 +8,8 @@ use lib.Dec.{eqb, ltb, leb}
 use lib.ListN.{get_or}
 use borrow.Author.Tests.{eqb-true, lt-ltb}
 use Rattle.crc.specs.Check.{stim300}
-use Rattle.setup.specs.Layout.{Part, identifier, gyro, accelerometer, inclinometer, gyroTemperatures, accelerometerTemperatures}
-use Rattle.setup.specs.Layout.{inclinometerTemperatures, aux, counter, latency, size, bytes, only, group_parts, temperature_parts, parts_of}
+use Rattle.setup.specs.Layout.{Part, identifier, gyro, accelerometer, inclinometer, gyro_temperatures, accelerometer_temperatures}
+use Rattle.setup.specs.Layout.{inclinometer_temperatures, aux, counter, latency, size, bytes, only, group_parts, temperature_parts, parts_of}
 use Rattle.setup.specs.Layout.{layout_of, length_in, Entry, table, R, has, carrying, place, carries, offset, placed}
 use Rattle.setup.specs.declared.Row.{Row}
 use Rattle.setup.proofs.Rows.{every_row}
@@ -47,7 +47,7 @@ within_by false r n m k o e f g = let h : o + n ≤ k = g e in omega arith
 -- the parts in 01's order: a part's number is its place here, so that two parts with one number are the same
 abbrev in_order : List Part
 in_order =
-    identifier ∷ gyro ∷ accelerometer ∷ inclinometer ∷ gyroTemperatures ∷ accelerometerTemperatures ∷ inclinometerTemperatures ∷
+    identifier ∷ gyro ∷ accelerometer ∷ inclinometer ∷ gyro_temperatures ∷ accelerometer_temperatures ∷ inclinometer_temperatures ∷
     aux ∷ counter ∷ latency ∷ []
 
 numbered : (p : Part) → get_or in_order (place p) identifier ≡ p
@@ -55,9 +55,9 @@ numbered identifier = refl
 numbered gyro = refl
 numbered accelerometer = refl
 numbered inclinometer = refl
-numbered gyroTemperatures = refl
-numbered accelerometerTemperatures = refl
-numbered inclinometerTemperatures = refl
+numbered gyro_temperatures = refl
+numbered accelerometer_temperatures = refl
+numbered inclinometer_temperatures = refl
 numbered aux = refl
 numbered counter = refl
 numbered latency = refl

@@ -9,7 +9,7 @@ use Rattle.setup.specs.declared.Listing.TheVariants.{Listed, Unlisted}
 
 -- the parts before the check
 pub data Part : Type 0 where
-  identifier gyro accelerometer inclinometer gyroTemperatures accelerometerTemperatures inclinometerTemperatures aux counter latency : Part
+  identifier gyro accelerometer inclinometer gyro_temperatures accelerometer_temperatures inclinometer_temperatures aux counter latency : Part
 
 -- the widths in bytes of the fields of a part, in order: a group and a temperature set are X, Y, Z and a status, AUX is a value and a status
 abbrev pub widths : Part → List ℕ
@@ -17,9 +17,9 @@ widths identifier = 1 ∷ []
 widths gyro = 3 ∷ 3 ∷ 3 ∷ 1 ∷ []
 widths accelerometer = 3 ∷ 3 ∷ 3 ∷ 1 ∷ []
 widths inclinometer = 3 ∷ 3 ∷ 3 ∷ 1 ∷ []
-widths gyroTemperatures = 2 ∷ 2 ∷ 2 ∷ 1 ∷ []
-widths accelerometerTemperatures = 2 ∷ 2 ∷ 2 ∷ 1 ∷ []
-widths inclinometerTemperatures = 2 ∷ 2 ∷ 2 ∷ 1 ∷ []
+widths gyro_temperatures = 2 ∷ 2 ∷ 2 ∷ 1 ∷ []
+widths accelerometer_temperatures = 2 ∷ 2 ∷ 2 ∷ 1 ∷ []
+widths inclinometer_temperatures = 2 ∷ 2 ∷ 2 ∷ 1 ∷ []
 widths aux = 3 ∷ 1 ∷ []
 widths counter = 1 ∷ []
 widths latency = 2 ∷ []
@@ -47,7 +47,7 @@ group_parts r = gyro ∷ only r.acceleration (accelerometer ∷ []) ++ only r.in
 abbrev pub temperature_parts : Row → List Part
 temperature_parts r =
     only r.temperatures (
-    gyroTemperatures ∷ only r.acceleration (accelerometerTemperatures ∷ []) ++ only r.inclination (inclinometerTemperatures ∷ [])
+    gyro_temperatures ∷ only r.acceleration (accelerometer_temperatures ∷ []) ++ only r.inclination (inclinometer_temperatures ∷ [])
     )
 
 -- the parts of a row in order; the check follows
@@ -151,9 +151,9 @@ place identifier = 0
 place gyro = 1
 place accelerometer = 2
 place inclinometer = 3
-place gyroTemperatures = 4
-place accelerometerTemperatures = 5
-place inclinometerTemperatures = 6
+place gyro_temperatures = 4
+place accelerometer_temperatures = 5
+place inclinometer_temperatures = 6
 place aux = 7
 place counter = 8
 place latency = 9

@@ -8,7 +8,7 @@ use mathlib.Core.Path.{◌≡◌, refl, ap, ◌∙◌}
 use lib.IntN.{ℤ, pos}
 use lib.ListN.{length, get_or, take}
 use Rattle.integers.specs.Bytes.{big_endian, twos_complement, signed_bytes}
-use Rattle.setup.specs.Layout.{Part, gyro, accelerometer, inclinometer, gyroTemperatures, accelerometerTemperatures, inclinometerTemperatures, aux}
+use Rattle.setup.specs.Layout.{Part, gyro, accelerometer, inclinometer, gyro_temperatures, accelerometer_temperatures, inclinometer_temperatures, aux}
 use Rattle.setup.specs.Layout.{counter, latency, widths, sum, parts_at, carries, offset, placed, row_at}
 use Rattle.setup.specs.Setup.{ruling_on}
 use Rattle.setup.specs.Sensor.{sensor_of}
@@ -87,21 +87,21 @@ module _ (i : ℕ) (s : List ℕ) where
   status_byte (suc (suc (suc k))) g c = absurd (omega arith)
 
   -- its temperature set: axis a in the two bytes from 2 × a on, the status in the byte 6
-  pub temperature_bytes : (g a : ℕ) → g < 3 → a < 3 → carries (parts_at i) (get_or temperature_sets g gyroTemperatures) ≡ true
+  pub temperature_bytes : (g a : ℕ) → g < 3 → a < 3 → carries (parts_at i) (get_or temperature_sets g gyro_temperatures) ≡ true
       → get_or (get_or (fields_of i s).temperatures g []) a (pos 0)
-      ≡ signed_bytes (window 2 (placed (parts_at i) (get_or temperature_sets g gyroTemperatures) + 2 * a) s)
+      ≡ signed_bytes (window 2 (placed (parts_at i) (get_or temperature_sets g gyro_temperatures) + 2 * a) s)
   unfolding fields_of
-  temperature_bytes zero a g h c = axis_bytes gyroTemperatures c 2 refl a h
-  temperature_bytes (suc zero) a g h c = axis_bytes accelerometerTemperatures c 2 refl a h
-  temperature_bytes (suc (suc zero)) a g h c = axis_bytes inclinometerTemperatures c 2 refl a h
+  temperature_bytes zero a g h c = axis_bytes gyro_temperatures c 2 refl a h
+  temperature_bytes (suc zero) a g h c = axis_bytes accelerometer_temperatures c 2 refl a h
+  temperature_bytes (suc (suc zero)) a g h c = axis_bytes inclinometer_temperatures c 2 refl a h
   temperature_bytes (suc (suc (suc k))) a g h c = absurd (omega arith)
 
-  pub temperature_status_byte : (g : ℕ) → g < 3 → carries (parts_at i) (get_or temperature_sets g gyroTemperatures) ≡ true
-      → get_or (fields_of i s).temperature_statuses g 0 ≡ get_or s (placed (parts_at i) (get_or temperature_sets g gyroTemperatures) + 6) 0
+  pub temperature_status_byte : (g : ℕ) → g < 3 → carries (parts_at i) (get_or temperature_sets g gyro_temperatures) ≡ true
+      → get_or (fields_of i s).temperature_statuses g 0 ≡ get_or s (placed (parts_at i) (get_or temperature_sets g gyro_temperatures) + 6) 0
   unfolding fields_of
-  temperature_status_byte zero g c = byte_field gyroTemperatures c 3 (omega arith) refl
-  temperature_status_byte (suc zero) g c = byte_field accelerometerTemperatures c 3 (omega arith) refl
-  temperature_status_byte (suc (suc zero)) g c = byte_field inclinometerTemperatures c 3 (omega arith) refl
+  temperature_status_byte zero g c = byte_field gyro_temperatures c 3 (omega arith) refl
+  temperature_status_byte (suc zero) g c = byte_field accelerometer_temperatures c 3 (omega arith) refl
+  temperature_status_byte (suc (suc zero)) g c = byte_field inclinometer_temperatures c 3 (omega arith) refl
   temperature_status_byte (suc (suc (suc k))) g c = absurd (omega arith)
 
   -- AUX: three bytes and a status
@@ -137,12 +137,12 @@ absent_group i s (suc zero) h e = rw (absent_part i s accelerometer e) (refl, re
 absent_group i s (suc (suc zero)) h e = rw (absent_part i s inclinometer e) (refl, refl)
 absent_group i s (suc (suc (suc g))) h e = absurd (omega arith)
 
-pub absent_temperatures : (i : ℕ) (s : List ℕ) (g : ℕ) → g < 3 → carries (parts_at i) (get_or temperature_sets g gyroTemperatures) ≡ false
+pub absent_temperatures : (i : ℕ) (s : List ℕ) (g : ℕ) → g < 3 → carries (parts_at i) (get_or temperature_sets g gyro_temperatures) ≡ false
     → (get_or (fields_of i s).temperatures g [] ≡ zero_axes) × (get_or (fields_of i s).temperature_statuses g 0 ≡ 0)
 unfolding fields_of signed_bytes twos_complement big_endian
-absent_temperatures i s zero h e = rw (absent_part i s gyroTemperatures e) (refl, refl)
-absent_temperatures i s (suc zero) h e = rw (absent_part i s accelerometerTemperatures e) (refl, refl)
-absent_temperatures i s (suc (suc zero)) h e = rw (absent_part i s inclinometerTemperatures e) (refl, refl)
+absent_temperatures i s zero h e = rw (absent_part i s gyro_temperatures e) (refl, refl)
+absent_temperatures i s (suc zero) h e = rw (absent_part i s accelerometer_temperatures e) (refl, refl)
+absent_temperatures i s (suc (suc zero)) h e = rw (absent_part i s inclinometer_temperatures e) (refl, refl)
 absent_temperatures i s (suc (suc (suc g))) h e = absurd (omega arith)
 
 pub absent_aux : (i : ℕ) (s : List ℕ) → carries (parts_at i) aux ≡ false → ((fields_of i s).aux ≡ pos 0) × ((fields_of i s).aux_status ≡ 0)

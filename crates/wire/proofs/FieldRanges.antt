@@ -11,7 +11,7 @@ use Rattle.integers.specs.Bytes.{AllBytes, big_endian, signed_bytes}
 use Rattle.integers.proofs.Parts.{pos_part, neg_part}
 use Rattle.integers.proofs.Bytes.{bytes_nil, big_endian_below, signed_bytes_range}
 use Rattle.integers.proofs.Folding.{InRange}
-use Rattle.setup.specs.Layout.{Part, gyro, accelerometer, inclinometer, gyroTemperatures, accelerometerTemperatures, inclinometerTemperatures, aux}
+use Rattle.setup.specs.Layout.{Part, gyro, accelerometer, inclinometer, gyro_temperatures, accelerometer_temperatures, inclinometer_temperatures, aux}
 use Rattle.setup.specs.Layout.{counter, latency, widths, parts_at, carries, offset}
 use Rattle.wire.proofs.FieldPlaces.{window_length, window_bytes}
 use Rattle.wire.specs.Fields.{Contents, cut, fields_of_part, signed_field, unsigned_field, axes, fields_of}
@@ -111,13 +111,13 @@ fields_fit i s h =
           (unsigned_field (fields_of_part ps s inclinometer) 3) 0 (byte gyro 3 refl) (byte accelerometer 3 refl) (byte inclinometer 3 refl) (omega arith);
       temperatures =
           at_three (λ row. (a : ℕ) → InTemperature (get_or row a (pos 0)))
-          (axes (fields_of_part ps s gyroTemperatures)) (axes (fields_of_part ps s accelerometerTemperatures)) (axes (fields_of_part ps s inclinometerTemperatures)) []
-          (set gyroTemperatures refl) (set accelerometerTemperatures refl) (set inclinometerTemperatures refl)
+          (axes (fields_of_part ps s gyro_temperatures)) (axes (fields_of_part ps s accelerometer_temperatures)) (axes (fields_of_part ps s inclinometer_temperatures)) []
+          (set gyro_temperatures refl) (set accelerometer_temperatures refl) (set inclinometer_temperatures refl)
           (λ a. record { above = omega arith; below = omega arith });
       temperature_statuses =
-          at_three (λ n. n < 256) (unsigned_field (fields_of_part ps s gyroTemperatures) 3) (unsigned_field (fields_of_part ps s accelerometerTemperatures) 3)
-          (unsigned_field (fields_of_part ps s inclinometerTemperatures) 3) 0
-          (byte gyroTemperatures 3 refl) (byte accelerometerTemperatures 3 refl) (byte inclinometerTemperatures 3 refl) (omega arith);
+          at_three (λ n. n < 256) (unsigned_field (fields_of_part ps s gyro_temperatures) 3) (unsigned_field (fields_of_part ps s accelerometer_temperatures) 3)
+          (unsigned_field (fields_of_part ps s inclinometer_temperatures) 3) 0
+          (byte gyro_temperatures 3 refl) (byte accelerometer_temperatures 3 refl) (byte inclinometer_temperatures 3 refl) (omega arith);
       aux = reading_narrow (get_or (fields_of_part ps s aux) 0 []) (field_narrow ps s h aux 0);
       aux_status = byte aux 1 refl;
       counter = byte counter 0 refl;

@@ -1,7 +1,7 @@
 -- 01, Layout by identifier: the fields of a datagram, read off the list of its parts with their widths.
 use Rattle.std.specs.Prelude.{ℕ, zero, suc, ◌+◌, cond, List, [], ◌∷◌, map, ℤ, get_or}
 use Rattle.integers.specs.Bytes.{big_endian, signed_bytes}
-use Rattle.setup.specs.Layout.{Part, gyro, accelerometer, inclinometer, gyroTemperatures, accelerometerTemperatures, inclinometerTemperatures, aux}
+use Rattle.setup.specs.Layout.{Part, gyro, accelerometer, inclinometer, gyro_temperatures, accelerometer_temperatures, inclinometer_temperatures, aux}
 use Rattle.setup.specs.Layout.{counter, latency, widths, parts_of, parts_at, carries, offset}
 use Rattle.setup.specs.declared.Row.{Row}
 use Rattle.wire.specs.declared.Fields.{Fields}
@@ -11,7 +11,7 @@ abbrev pub groups : List Part
 groups = gyro ∷ accelerometer ∷ inclinometer ∷ []
 
 abbrev pub temperature_sets : List Part
-temperature_sets = gyroTemperatures ∷ accelerometerTemperatures ∷ inclinometerTemperatures ∷ []
+temperature_sets = gyro_temperatures ∷ accelerometer_temperatures ∷ inclinometer_temperatures ∷ []
 
 -- n bytes of a list from a place on; what lies beyond its end counts as 0
 abbrev pub window : ℕ → ℕ → List ℕ → List ℕ

@@ -5,7 +5,7 @@ use Prim.Native.Nat.{ℕ}
 use mathlib.Core.List.{List}
 use mathlib.Core.Path.{◌≡◌, refl, ap, ◌∙◌}
 use lib.ListN.{get_or}
-use Rattle.setup.specs.Layout.{gyroTemperatures, accelerometerTemperatures, inclinometerTemperatures, aux, parts_of}
+use Rattle.setup.specs.Layout.{gyro_temperatures, accelerometer_temperatures, inclinometer_temperatures, aux, parts_of}
 use Rattle.wire.specs.Fields.{fields_of_part, axes, contents_of}
 use Rattle.wire.proofs.RowPlaces.{place_low}
 use Rattle.wire.proofs.FieldPlaces.{fields_placed, byte_placed, axes_read, byte_read}
@@ -53,7 +53,7 @@ bytes-at-requires : tie.Need-bytes-at-requires
 bytes-at-requires c κs =
     let r = c.before.before.before.before.before.before.before.args.row in
     rw c.before.before.before.before.before.temperature-places.ensures
-    ((place_low r gyroTemperatures, place_low r accelerometerTemperatures, place_low r inclinometerTemperatures), omega arith)
+    ((place_low r gyro_temperatures, place_low r accelerometer_temperatures, place_low r inclinometer_temperatures), omega arith)
 
 aux-at-requires : tie.Need-aux-at-requires
 aux-at-requires c κs =
@@ -82,17 +82,17 @@ returns c =
     let s = c.before.before.before.before.before.before.before.before.before.before.before.before.args.s.now in
     let places = c.before.before.before.before.before.before.before.before.before.before.temperature-places.ensures in
     let aux-here = c.before.before.before.before.before.before.before.before.before.aux-place.ensures in
-    let gyro : c.before.before.before.before.before.before.before.axes_at_lem.result ≡ axes (fields_of_part (parts_of r) s gyroTemperatures) =
-    axes_read r s gyroTemperatures refl 2 refl (ap (λ (ps : List ℕ). get_or ps 0 0) places) c.before.before.before.before.before.before.before.axes_at_lem.ensures in
-    let accelerometer : c.before.before.before.before.before.before.axes-at2.result ≡ axes (fields_of_part (parts_of r) s accelerometerTemperatures) =
-    axes_read r s accelerometerTemperatures refl 2 refl (ap (λ (ps : List ℕ). get_or ps 1 0) places) c.before.before.before.before.before.before.axes-at2.ensures in
-    let inclinometer : c.before.before.before.before.before.axes-at3.result ≡ axes (fields_of_part (parts_of r) s inclinometerTemperatures) =
-    axes_read r s inclinometerTemperatures refl 2 refl (ap (λ (ps : List ℕ). get_or ps 2 0) places) c.before.before.before.before.before.axes-at3.ensures in
+    let gyro : c.before.before.before.before.before.before.before.axes_at_lem.result ≡ axes (fields_of_part (parts_of r) s gyro_temperatures) =
+    axes_read r s gyro_temperatures refl 2 refl (ap (λ (ps : List ℕ). get_or ps 0 0) places) c.before.before.before.before.before.before.before.axes_at_lem.ensures in
+    let accelerometer : c.before.before.before.before.before.before.axes-at2.result ≡ axes (fields_of_part (parts_of r) s accelerometer_temperatures) =
+    axes_read r s accelerometer_temperatures refl 2 refl (ap (λ (ps : List ℕ). get_or ps 1 0) places) c.before.before.before.before.before.before.axes-at2.ensures in
+    let inclinometer : c.before.before.before.before.before.axes-at3.result ≡ axes (fields_of_part (parts_of r) s inclinometer_temperatures) =
+    axes_read r s inclinometer_temperatures refl 2 refl (ap (λ (ps : List ℕ). get_or ps 2 0) places) c.before.before.before.before.before.axes-at3.ensures in
     let sets : c.before.before.before.before.bytes-at.result ≡ (contents_of r s).temperature_statuses =
     c.before.before.before.before.bytes-at.ensures ∙ rw (
-      byte_placed r s gyroTemperatures 3 refl (omega arith) refl,
-      byte_placed r s accelerometerTemperatures 3 refl (omega arith) refl,
-      byte_placed r s inclinometerTemperatures 3 refl (omega arith) refl,
+      byte_placed r s gyro_temperatures 3 refl (omega arith) refl,
+      byte_placed r s accelerometer_temperatures 3 refl (omega arith) refl,
+      byte_placed r s inclinometer_temperatures 3 refl (omega arith) refl,
       places,
     ) in
     let aux_status_lem : c.before.before.byte_at.result ≡ (contents_of r s).aux_status =
