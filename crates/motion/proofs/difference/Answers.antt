@@ -1,5 +1,5 @@
 -- `motion::difference` meets its contract. Assumes nothing.
-use Rattle.std.proofs.Common.{◌≡◌, ◌+◌, ◌*◌, ◌/◌, ◌%◌, ℤ, pos, ◌+ℤ◌, ◌-ℤ◌, ◌∙◌, arith, w32, SFits, rules}
+use Rattle.std.proofs.Common.{◌≡◌, ◌+◌, ◌*◌, ◌/◌, ◌%◌, ℤ, pos, ◌+ℤ◌, ◌-ℤ◌, ◌∙◌, arith, w32, SFits}
 use mir.ValLaws.{to_z-of_z, to_z_pos}
 use Rattle.integers.proofs.Folding.{wrapped_low, wrapped_high, wrapped_fits}
 use Rattle.integers.proofs.Signed.{passed}
@@ -15,11 +15,11 @@ wrapped c = omega (arith, c.wrapping_sub_u32-d.ensures)
 
 -- a signed argument reaches the callee as what is read back from its bits
 new-above : (c : After-above_least) → pos c.above_least.result ≡ c.before.args.new +ℤ pos 2147483648
-new-above c = passed w32 (λ (z : ℤ). z +ℤ pos 2147483648) c.before.args.new c.before.fits.new c.above_least.ensures
+new-above c = passed w32 (λ (z : ℤ). z +ℤ pos 2147483648) c.before.args.new c.before.ranges.new c.above_least.ensures
 
 old-above : (c : After-above_least-2) → pos c.above_least-2.result ≡ c.before.before.args.old +ℤ pos 2147483648
 old-above c =
-    passed w32 (λ (z : ℤ). z +ℤ pos 2147483648) c.before.before.args.old c.before.before.fits.old c.above_least-2.ensures
+    passed w32 (λ (z : ℤ). z +ℤ pos 2147483648) c.before.before.args.old c.before.before.ranges.old c.above_least-2.ensures
 
 pub returns-then-d-lt8388608 : goal.returns-then-d-lt8388608
 unfolding difference

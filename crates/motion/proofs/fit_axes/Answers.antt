@@ -1,5 +1,5 @@
 -- `motion::fit_axes` meets its contract. Assumes nothing.
-use Rattle.std.proofs.Common.{ℕ, Bool, false, not, ◌&&◌, ◌||◌, List, [], ◌∷◌, get_or, ap, rules}
+use Rattle.std.proofs.Common.{ℕ, Bool, false, not, ◌&&◌, ◌||◌, List, [], ◌∷◌, get_or, ap}
 use Rattle.motion.specs.Status.{is_set, unfit}
 use Rattle.motion.proofs.fit_axes.Goals as goal
 

@@ -1,9 +1,9 @@
 -- `motion::fit_step` meets its contract. Assumes nothing.
-use Rattle.std.proofs.Common.{◌≡◌, ◌^◌, ◌≤◌, true, cond, ℤ, pos, ◌+ℤ◌, nat_abs, sym, refl, ap, ◌∙◌, subst, arith, w32, w64, SFits, to_z, of_z, rules}
+use Rattle.std.proofs.Common.{◌≡◌, ◌^◌, ◌≤◌, true, cond, ℤ, pos, ◌+ℤ◌, nat_abs, sym, refl, ap, ◌∙◌, subst, arith, w32, w64, SFits, to_z, of_z}
 use mir.ValLaws.{to_z-of_z}
 use Rattle.motion.specs.Totals.{difference, fit_step}
 use Rattle.integers.proofs.Sizes.{abs_add}
-use Rattle.integers.proofs.Signed.{sfits_of_abs, sfits_by, widen, widened, read_back}
+use Rattle.integers.proofs.Signed.{sfits_of_abs, widened, read_back}
 use Rattle.motion.proofs.Bounds.{difference_bound}
 use Rattle.motion.proofs.fit_step.Goals as goal
 use Rattle.motion.proofs.fit_step.Goals.{After-difference}

@@ -1,5 +1,5 @@
 -- `motion::flagged_channels` meets its contract. Assumes nothing.
-use Rattle.std.proofs.Common.{◌≡◌, ℕ, ◌+◌, ◌/◌, ◌%◌, refl, ap, ◌∙◌, arith, rules}
+use Rattle.std.proofs.Common.{◌≡◌, ℕ, ◌+◌, ◌/◌, ◌%◌, refl, ap, ◌∙◌, arith}
 use lib.Count.{ones, ones_in, ones_step}
 use Rattle.motion.specs.Status.{flagged}
 use Rattle.motion.proofs.flagged_channels.Goals as goal

@@ -1,6 +1,5 @@
 -- `motion::judgements_of` meets its contract. Assumes nothing.
 use Rattle.motion.specs.Judgements.{judgements_of}
-use Rattle.std.proofs.Common.{rules}
 use Rattle.motion.proofs.judgements_of.Goals as goal
 
 pub returns : goal.returns

@@ -1,6 +1,5 @@
 -- `motion::kept_groups` meets its contract. Assumes nothing.
 use Rattle.motion.specs.Totals.{kept_by}
-use Rattle.std.proofs.Common.{rules}
 use Rattle.motion.proofs.kept_groups.Goals as goal
 
 pub returns : goal.returns

@@ -1,5 +1,5 @@
 -- `motion::named_axes` meets its contract. Assumes nothing.
-use Rattle.std.proofs.Common.{ℕ, Bool, ◌||◌, eqb, [], ◌∷◌, ap, ◌∙◌, rules}
+use Rattle.std.proofs.Common.{ℕ, Bool, ◌||◌, eqb, [], ◌∷◌, ap, ◌∙◌}
 use Rattle.motion.specs.Status.{is_set}
 use Rattle.motion.proofs.Status.{none_flagged_lem}
 use Rattle.motion.proofs.named_axes.Goals as goal

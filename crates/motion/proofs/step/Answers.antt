@@ -1,6 +1,5 @@
 -- `motion::step` meets its contract. Assumes nothing.
 use Rattle.motion.specs.Totals.{stepped}
-use Rattle.std.proofs.Common.{rules}
 use Rattle.motion.proofs.step.Goals as goal
 
 pub returns : goal.returns

@@ -1,6 +1,5 @@
 -- `motion::totals_of` meets its contract. Assumes nothing.
 use Rattle.motion.specs.Totals.{totals_of}
-use Rattle.std.proofs.Common.{rules}
 use Rattle.motion.proofs.totals_of.Goals as goal
 
 pub returns : goal.returns
