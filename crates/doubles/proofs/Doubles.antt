@@ -12,7 +12,7 @@ use lib.Dec.{T, leb, eqb, eqb-suc-zero, le→leb, lt→ltb, lit<}
 use lib.Pow.{pow_pos, pow_mono, pow-lt, pow-add, shl_lt, shl_exact}
 use lib.IntN.{ℤ, pos, negsuc, nat_abs}
 use lib.ListN.{get_or}
-use lib.Ieee.{Float, nan, inf, fin, Format, binary64, prec, low, up, down, hid, top, size, to_bits, unlike, round, div, of_int, in_float, of_bits, fits}
+use lib.Ieee.{Float, nan, inf, fin, Format, binary64, prec, low, up, down, hid, top, size, to_bits, unlike, round, div, of_int, in_float as cast_in_float, of_bits, fits}
 use lib.Ieee.Exact.{HasValue, round_exact}
 use lib.Ieee.Back.{round_whole}
 use lib.Ieee.Fits.{down_pos, round-fits}
@@ -53,6 +53,10 @@ cross x y a b u v e f =
 
 div_values : (f : Format) (x y : Float) (s : Bool) (a b : ℕ) → 0 < b → HasValue x s a 1 → HasValue y false b 1 → div f x y ≡ round f s a b
 unfolding div
+div_values f nan y s a b h p q = elim p [ ]
+div_values f (inf _) y s a b h p q = elim p [ ]
+div_values f (fin s' m e) nan s a b h p q = elim q [ ]
+div_values f (fin s' m e) (inf _) s a b h p q = elim q [ ]
 div_values f (fin s' m e) (fin t n d) s a b h p q =
     let ex : m * up e ≡ a * down e = sym (mul-one (m * up e)) ∙ p.1 in
     let ey : n * up d ≡ b * down d = sym (mul-one (n * up d)) ∙ q.1 in
@@ -70,8 +74,8 @@ whole_value (pos n) h = round_whole binary64 false n h
 whole_value (negsuc n) h = round_whole binary64 true (suc n) h
 
 -- what the cast of a total to f64 asks
-pub in_float : (n : ℤ) → nat_abs n ≤ 2 ^ 53 → T (in_float binary64 n)
-unfolding in_float
+pub in_float : (n : ℤ) → nat_abs n ≤ 2 ^ 53 → T (cast_in_float binary64 n)
+unfolding cast_in_float
 in_float (pos n) h = le→leb n (2 ^ 53) h
 in_float (negsuc n) h = lt→ltb n (2 ^ 53) h
 
@@ -125,6 +129,8 @@ bits_of f s n = let k = size n - prec f in cond s (top f) 0 + k * hid f + n / 2 
 
 bits_by_value : (f : Format) (x : Float) (s : Bool) (a c : ℕ) → 0 < c → HasValue x s a c → to_bits f x ≡ bits_of f s (a * 2 ^ low f / c)
 unfolding to_bits bits_of
+bits_by_value f nan s a c h v = elim v [ ]
+bits_by_value f (inf _) s a c h v = elim v [ ]
 bits_by_value f (fin t m e) s a c h v =
     let cross : m * up e * 2 ^ low f * c ≡ a * 2 ^ low f * down e =
     mul_right_comm (m * up e) (2 ^ low f) c ∙ ap (λ (x : ℕ). x * 2 ^ low f) v.1 ∙ mul_right_comm a (down e) (2 ^ low f) in

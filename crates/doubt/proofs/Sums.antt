@@ -61,7 +61,7 @@ pub stays_marked : (rate : ℕ) (begun first : Bool) (p : ℕ) (a : AxisDoubt) (
     → (doubt_after rate begun first p a ds).marked ≡ true
 unfolding doubt_after
 stays_marked rate begun first p a [] e = e
-stays_marked rate begun first p a (d ∷ ds) e = stays_marked rate _ false d.counter _ ds (mark_stays rate begun d.sighting.fit a _ e)
+stays_marked rate begun first p a (d ∷ ds) e = stays_marked rate (begun || d.sighting.fit) false d.counter _ ds (mark_stays rate begun d.sighting.fit a _ e)
 
 -- ---- marked where it may have slipped
 

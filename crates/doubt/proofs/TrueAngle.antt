@@ -251,7 +251,7 @@ unmarked_stands rate fine h ds i l ts A first p f e =
     let ss = sightings es in
     let same : ss ≡ take n (sightings ds) = sym (take_map (λ (d : Counted). d.sighting) ds n) in
     let seen : (get_or ss i totals.none).fit ≡ true =
-    ap (λ (s : Sighting). s.fit) (ListN.get_or_map (λ (d : Counted). d.sighting) es i none) ∙ g in
+    ap (λ (s : Sighting). s.fit) (ListN.get_or-map (λ (d : Counted). d.sighting) es i none) ∙ g in
     let s =
     total_at_each fine h no_axis refl ss (fit_angles es ts) (carried_fit fine es ts A.one_each A.carried) (close_all rate fine h first p es ts A e) i
     (omega (arith, length-map es (λ (d : Counted). d.sighting))) seen in (

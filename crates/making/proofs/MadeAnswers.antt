@@ -13,8 +13,8 @@ use Rattle.integers.specs.Bytes.{in_bytes}
 use Rattle.integers.proofs.Buffers.{put_front, put_length, then_put, put_taken}
 use Rattle.integers.proofs.Values.{in_bytes_length}
 use Rattle.crc.specs.Check.{check32}
-use Rattle.setup.specs.Layout.{Part, bytes, parts_of, Layout, layout_of, length_in}
-use Rattle.setup.specs.Setup.{first_of, buffer_by, setup_rules, ruling_on, terminated}
+use Rattle.setup.specs.Layout.{Part, parts_of, Layout, layout_of, length_in}
+use Rattle.setup.specs.Setup.{first_of, buffer_by, setup_rules, ruling_on}
 use Rattle.setup.specs.Sensor.{sensor_of}
 use Rattle.setup.specs.declared.Row.{Row}
 use Rattle.setup.specs.declared.Sensor.{Sensor}

@@ -8,7 +8,7 @@ use lib.ListN.{get_or}
 use Rattle.integers.specs.Bytes.{signed, unsigned}
 use Rattle.integers.specs.Ranges.{is_zero, fits}
 use Rattle.setup.specs.Layout.{Part, gyro, accelerometer, inclinometer, gyro_temperatures, accelerometer_temperatures, inclinometer_temperatures}
-use Rattle.setup.specs.Layout.{aux, counter, latency, parts_of, carries}
+use Rattle.setup.specs.Layout.{aux, parts_of, carries}
 use Rattle.setup.specs.declared.Row.{Row}
 use Rattle.setup.proofs.Rows.{every_row}
 use Rattle.made_datagram.specs.Making.{given, part_outside, given_parts, outside_in}

@@ -1,0 +1,14 @@
+-- `doubles::reading_double` meets its contract. Assumes nothing.
+use native.Mathlib.Omega.{arith}
+use mir.Syntax.{w32}
+use mir.ValLaws.{to_z-of_z}
+use Rattle.integers.proofs.Signed.{abs_of_sfits}
+use Rattle.doubles.proofs.Doubles.{computed}
+use Rattle.doubles.proofs.reading_double.Goals as goal
+
+pub returns : goal.returns
+returns c =
+    let s = c in
+    let n = s.args.reading in
+    rw (to_z-of_z w32 n s.ranges.reading, c.power.ensures)
+    (computed n s.args.shift (omega (arith, abs_of_sfits w32 n s.ranges.reading)) s.requires)

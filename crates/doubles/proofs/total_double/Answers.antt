@@ -1,0 +1,46 @@
+-- `doubles::total_double` meets its contract. Assumes nothing.
+use Prim.Native.Nat.{◌^◌}
+use mathlib.Core.Path.{sym, ◌∙◌}
+use native.Mathlib.Omega.{arith}
+use lib.Ieee.{of_bits}
+use mir.Syntax.{w64}
+use mir.Val.{SFits}
+use mir.ValLaws.{to_z-of_z}
+use Rattle.integers.specs.Ranges.{within}
+use Rattle.integers.proofs.Ranges.{within_true}
+use Rattle.integers.proofs.Signed.{passed}
+use Rattle.doubles.specs.Doubles.{total_double}
+use Rattle.doubles.proofs.Doubles.{shift_small}
+use Rattle.doubles.proofs.total_double.Goals as goal
+
+pub steps_double-requires : goal.steps_double-requires
+steps_double-requires c =
+    let z = c.args.axis.total in
+    let f : SFits w64 z = record { sfits = omega arith } in
+    let told = passed w64 (within (2 ^ 53)) z f c.fits_total.ensures in
+    record {
+      fact_1 = rw (to_z-of_z w64 z f) (within_true (2 ^ 53) z (sym told ∙ c.if-fits_total.true));
+      fact_2 = rw c.known_shift-k.ensures (shift_small c.args.shift);
+    }
+
+pub returns-then-fits_total : goal.returns-then-fits_total
+unfolding total_double
+returns-then-fits_total c =
+    let z = c.args.axis.total in
+    let f : SFits w64 z = record { sfits = omega arith } in
+    let told = passed w64 (within (2 ^ 53)) z f c.fits_total.ensures in
+    rw (
+      ← told,
+      c.if-fits_total.true,
+      c.steps_double.ensures,
+      c.known_shift-k.ensures,
+      to_z-of_z w64 z f,
+    )
+
+pub returns : goal.returns
+unfolding total_double of_bits
+returns c =
+    let z = c.args.axis.total in
+    let f : SFits w64 z = record { sfits = omega arith } in
+    let told = passed w64 (within (2 ^ 53)) z f c.fits_total.ensures in
+    rw (← told, c.if-fits_total.false)
