@@ -1,6 +1,5 @@
 -- `crc::byte_step` meets its contract, by that of `eight_shifts`.
 -- Assumes nothing.
-use borrow.Author.Rules.{rules}
 use lib.Dec.{lit≤}
 use lib.Pow.{shl_exact}
 use Rattle.crc.specs.Check.{byte_step}

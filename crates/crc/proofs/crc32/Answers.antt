@@ -1,11 +1,9 @@
 -- `crc::crc32` meets its contract. The invariant: the register after the bytes that are left, from here, is the check.
 -- Assumes nothing.
-use mathlib.Core.Path.{◌≡◌, ap, ◌∙◌}
-use Prim.Native.Nat.{ℕ, ◌-◌, ◌%◌, ◌≤◌}
+use mathlib.Core.Path.{ap, ◌∙◌}
+use Prim.Native.Nat.{ℕ}
 use native.Mathlib.Omega.{arith}
-use borrow.Author.Rules.{rules}
 use lib.Dec.{lit<}
-use lib.ListN.{length, drop}
 use Rattle.crc.specs.Check.{stim300, register, covered, check_of, check32}
 use Rattle.crc.specs.Wide.{remainder}
 use Rattle.crc.proofs.Remainder.{remainder_low}

@@ -1,13 +1,8 @@
-use mathlib.Core.Path.{◌≡◌, ap, ◌∙◌}
-use Prim.Native.Nat.{ℕ, ◌-◌, ◌%◌, ◌≤◌}
-use native.Mathlib.Omega.{arith}
-use borrow.Author.Rules.{rules}
-use lib.Dec.{lit<}
+use mathlib.Core.Path.{◌≡◌}
+use Prim.Native.Nat.{◌-◌, ◌%◌, ◌≤◌}
 use lib.ListN.{length, drop}
-use Rattle.crc.specs.Check.{stim300, register, covered, check_of, check32}
+use Rattle.crc.specs.Check.{register, covered, check32}
 use Rattle.crc.specs.Wide.{remainder}
-use Rattle.crc.proofs.Remainder.{remainder_low}
-use Rattle.crc.proofs.WordLoop.{four_next}
 use Rattle.crc.proofs.crc32.Given as goal
 
 abbrev pub invariant-loop-i : goal.invariant-loop-i

@@ -1,11 +1,10 @@
 -- `crc::crc32_mpeg2` meets its contract. The invariant: the register after the bytes that are left, from here, is the check.
 -- Assumes nothing.
-use mathlib.Core.Path.{◌≡◌, sym, ap, ◌∙◌}
-use Prim.Native.Nat.{ℕ, ◌+◌, ◌-◌, ◌≤◌}
+use mathlib.Core.Path.{sym, ap, ◌∙◌}
+use Prim.Native.Nat.{ℕ, ◌+◌}
 use native.Mathlib.Omega.{arith}
-use borrow.Author.Rules.{rules}
-use lib.ListN.{length, drop}
-use Rattle.crc.specs.Check.{register, check_of, mpeg2}
+use lib.ListN.{drop}
+use Rattle.crc.specs.Check.{register}
 use Rattle.crc.proofs.ByteLoop.{byte_next, byte_end, mpeg2_register}
 use Rattle.crc.proofs.crc32_mpeg2.Goals as goal
 

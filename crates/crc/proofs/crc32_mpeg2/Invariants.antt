@@ -1,10 +1,7 @@
-use mathlib.Core.Path.{◌≡◌, sym, ap, ◌∙◌}
-use Prim.Native.Nat.{ℕ, ◌+◌, ◌-◌, ◌≤◌}
-use native.Mathlib.Omega.{arith}
-use borrow.Author.Rules.{rules}
+use mathlib.Core.Path.{◌≡◌}
+use Prim.Native.Nat.{◌-◌, ◌≤◌}
 use lib.ListN.{length, drop}
 use Rattle.crc.specs.Check.{register, check_of, mpeg2}
-use Rattle.crc.proofs.ByteLoop.{byte_next, byte_end, mpeg2_register}
 use Rattle.crc.proofs.crc32_mpeg2.Given as goal
 
 abbrev pub invariant-loop-i : goal.invariant-loop-i

@@ -1,9 +1,6 @@
 -- `crc::eight_shifts` meets its contract, by the laws of the loop over any width.
 -- Assumes nothing.
-use Prim.Native.Nat.{◌-◌}
-use native.Mathlib.Omega.{arith}
-use borrow.Author.Rules.{rules}
-use Rattle.crc.proofs.ByteLoop.{EightLeft, eight_start, eight_next, eight_end}
+use Rattle.crc.proofs.ByteLoop.{eight_start, eight_next, eight_end}
 use Rattle.crc.proofs.eight_shifts.Goals as goal
 
 pub loop-count-init : goal.loop-count-init

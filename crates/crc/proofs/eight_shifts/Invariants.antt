@@ -1,7 +1,5 @@
 use Prim.Native.Nat.{◌-◌}
-use native.Mathlib.Omega.{arith}
-use borrow.Author.Rules.{rules}
-use Rattle.crc.proofs.ByteLoop.{EightLeft, eight_start, eight_next, eight_end}
+use Rattle.crc.proofs.ByteLoop.{EightLeft}
 use Rattle.crc.proofs.eight_shifts.Given as goal
 
 abbrev pub invariant-loop-count : goal.invariant-loop-count

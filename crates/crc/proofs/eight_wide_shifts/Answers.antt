@@ -1,10 +1,7 @@
 -- `crc::eight_wide_shifts` meets its contract, by the laws of the loop over any width.
 -- Assumes nothing.
-use Prim.Native.Nat.{◌-◌}
-use native.Mathlib.Omega.{arith}
-use borrow.Author.Rules.{rules}
 use Rattle.crc.specs.Wide.{wide_polynomial}
-use Rattle.crc.proofs.ByteLoop.{EightLeft, eight_start, eight_next, eight_end}
+use Rattle.crc.proofs.ByteLoop.{eight_start, eight_next, eight_end}
 use Rattle.crc.proofs.eight_wide_shifts.Goals as goal
 
 pub loop-count-init : goal.loop-count-init

@@ -8,7 +8,6 @@ use lib.ListN.{get_or, drop, get_or-eq_default}
 use Rattle.crc.specs.Check.{register, covered}
 use Rattle.crc.specs.Wide.{remainder}
 use Rattle.crc.proofs.WordLoop.{four, four_next, four_end}
-use borrow.Author.Rules.{rules}
 use Rattle.crc.proofs.last_step.Goals as goal
 
 pub returns-then-i-s : goal.returns-then-i-s

@@ -1,7 +1,6 @@
 -- `crc::lowest_byte` meets its contract, by that of `eight_wide_shifts`.
 -- Assumes nothing.
 use mathlib.Core.Path.{ap, ◌∙◌}
-use borrow.Author.Rules.{rules}
 use Rattle.crc.specs.Check.{shifts}
 use Rattle.crc.specs.Wide.{wide_polynomial}
 use Rattle.crc.proofs.Laws.{shifted_mod}

@@ -1,6 +1,5 @@
 -- `crc::remainder_of` meets its contract: four times eight shifts are 32.
 -- Assumes nothing.
-use borrow.Author.Rules.{rules}
 use Rattle.crc.specs.Check.{shifts}
 use Rattle.crc.specs.Wide.{remainder}
 use Rattle.crc.proofs.remainder_of.Goals as goal

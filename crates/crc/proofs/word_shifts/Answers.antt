@@ -1,7 +1,6 @@
 -- `crc::word_shifts` meets its contract, by the law of four look-ups.
 -- Assumes nothing.
 use mathlib.Core.Path.{sym}
-use borrow.Author.Rules.{rules}
 use Rattle.crc.proofs.FourLookups.{four_lookups}
 use Rattle.crc.proofs.word_shifts.Goals as goal
 

@@ -1,7 +1,6 @@
 -- `crc::word_step` meets its contract: the wide register moves as the one that it stands for.
 -- Assumes nothing.
 use mathlib.Core.Path.{ap, ◌∙◌}
-use borrow.Author.Rules.{rules}
 use Rattle.crc.specs.Wide.{remainder}
 use Rattle.crc.proofs.FourBytes.{wide_four}
 use Rattle.crc.proofs.word_step.Goals as goal

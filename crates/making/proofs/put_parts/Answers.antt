@@ -42,45 +42,45 @@ module _ (i : ℕ) (row : Row) (readings : List (List ℤ)) (v : Values) where
   abbrev latency : List ℕ
   latency = value_bytes 2 v.latency
 
-  abbrev behind-aux : List ℕ
-  behind-aux = counter ++ latency
+  abbrev behind_aux : List ℕ
+  behind_aux = counter ++ latency
 
-  abbrev behind-temperatures : List ℕ
-  behind-temperatures = voltage ++ behind-aux
+  abbrev behind_temperatures : List ℕ
+  behind_temperatures = voltage ++ behind_aux
 
-  abbrev behind-groups : List ℕ
-  behind-groups = temperatures ++ behind-temperatures
+  abbrev behind_groups : List ℕ
+  behind_groups = temperatures ++ behind_temperatures
 
-  abbrev behind-identifier : List ℕ
-  behind-identifier = groups ++ behind-groups
+  abbrev behind_identifier : List ℕ
+  behind_identifier = groups ++ behind_groups
 
   module _ (b : List ℕ) (enough : bytes (parts_of row) ≤ length b) where
-    room : 0 + length (identifier ++ behind-identifier) ≤ length b
+    room : 0 + length (identifier ++ behind_identifier) ≤ length b
     room =
-        let e : length (identifier ++ behind-identifier) ≡ bytes (parts_of row) =
+        let e : length (identifier ++ behind_identifier) ≡ bytes (parts_of row) =
         ap length (parts_in_turn i readings v row) ∙ parts_length i readings v (parts_of row) in
         omega (arith, enough)
 
     -- each where the one before it ends, and the room behind it
     module _ {b1 : List ℕ} {n1 : ℕ} (first : Put b 0 identifier b1 n1) where
-      room-first : n1 + length behind-identifier ≤ length b1
-      room-first = room_then first behind-identifier room
+      room_first_lem : n1 + length behind_identifier ≤ length b1
+      room_first_lem = room_then first behind_identifier room
 
       module _ {b2 : List ℕ} {n2 : ℕ} (second : Put b1 n1 groups b2 n2) where
-        room-second : n2 + length behind-groups ≤ length b2
-        room-second = room_then second behind-groups room-first
+        room_second : n2 + length behind_groups ≤ length b2
+        room_second = room_then second behind_groups room_first_lem
 
         module _ {b3 : List ℕ} {n3 : ℕ} (third : Put b2 n2 temperatures b3 n3) where
-          room-third : n3 + length behind-temperatures ≤ length b3
-          room-third = room_then third behind-temperatures room-second
+          room_third : n3 + length behind_temperatures ≤ length b3
+          room_third = room_then third behind_temperatures room_second
 
           module _ {b4 : List ℕ} {n4 : ℕ} (fourth : Put b3 n3 voltage b4 n4) where
-            room-fourth : n4 + length behind-aux ≤ length b4
-            room-fourth = room_then fourth behind-aux room-third
+            room_fourth : n4 + length behind_aux ≤ length b4
+            room_fourth = room_then fourth behind_aux room_third
 
             module _ {b5 : List ℕ} {n5 : ℕ} (fifth : Put b4 n4 counter b5 n5) where
-              room-fifth : n5 + length latency ≤ length b5
-              room-fifth = room_then fifth latency room-fourth
+              room_fifth : n5 + length latency ≤ length b5
+              room_fifth = room_then fifth latency room_fourth
 
               -- all of them
               whole : {b6 : List ℕ} {n6 : ℕ} → Put b5 n5 latency b6 n6 → Put b 0 (parts_with (given i readings v) (parts_of row)) b6 n6
@@ -89,13 +89,13 @@ module _ (i : ℕ) (row : Row) (readings : List (List ℤ)) (v : Values) where
                   (then_put first (then_put second (then_put third (then_put fourth (then_put fifth sixth)))))
 
 -- what the identifier, AUX and the counter are put as, by what the callees got
-identifier-put : (c : After-put_value-groups) → Put c.args.buffer.now 0 (identifier c.args.identifier c.args.row c.args.readings c.args.values) c.put_value-groups.new.buffer c.put_value-groups.result
-identifier-put c = rw (to_z_pos w32 c.args.identifier (omega arith)) at c.put_value-groups.ensures
+identifier_put : (c : After-put_value-groups) → Put c.args.buffer.now 0 (identifier c.args.identifier c.args.row c.args.readings c.args.values) c.put_value-groups.new.buffer c.put_value-groups.result
+identifier_put c = rw (to_z_pos w32 c.args.identifier (omega arith)) at c.put_value-groups.ensures
 
-voltage-put :
+voltage_put :
     (c : After-put_aux-counter)
     → Put c.put_temperatures-aux.new.buffer c.put_temperatures-aux.result (voltage c.args.identifier c.args.row c.args.readings c.args.values) c.put_aux-counter.new.buffer c.put_aux-counter.result
-voltage-put c =
+voltage_put c =
     let v = c.args.values in
     let t = c.struct_told-1.given in
     let value : SFits w32 v.aux = record { sfits = omega arith } in
@@ -103,10 +103,10 @@ voltage-put c =
     put_passed (λ (z : ℤ). aux_bytes c.args.row.aux z v.aux_status) v.aux value
     (put_passed (aux_bytes c.args.row.aux _) v.aux_status status c.put_aux-counter.ensures)
 
-counter-put :
+counter_put :
     (c : After-put_value-latency)
     → Put c.put_aux-counter.new.buffer c.put_aux-counter.result (counter c.args.identifier c.args.row c.args.readings c.args.values) c.put_value-latency.new.buffer c.put_value-latency.result
-counter-put c =
+counter_put c =
     let v = c.args.values in
     let t = c.struct_told-3-1.given in
     let number : SFits w32 v.counter = record { sfits = omega arith } in
@@ -117,14 +117,14 @@ put_value-groups-requires c = (omega arith, omega arith, omega (arith, c.require
 
 pub put_groups-temperatures-requires : goal.put_groups-temperatures-requires
 put_groups-temperatures-requires c =
-    let first = identifier-put (goal.at.put_groups-temperatures-requires c).After-put_value-groups in
-    room_first c.put_value-groups.result (groups c.args.identifier c.args.row c.args.readings c.args.values) (behind-groups c.args.identifier c.args.row c.args.readings c.args.values) (room-first c.args.identifier c.args.row c.args.readings c.args.values c.args.buffer.now c.requires first)
+    let first = identifier_put (goal.at.put_groups-temperatures-requires c).After-put_value-groups in
+    room_first c.put_value-groups.result (groups c.args.identifier c.args.row c.args.readings c.args.values) (behind_groups c.args.identifier c.args.row c.args.readings c.args.values) (room_first_lem c.args.identifier c.args.row c.args.readings c.args.values c.args.buffer.now c.requires first)
 
 pub put_temperatures-aux-requires : goal.put_temperatures-aux-requires
 put_temperatures-aux-requires c =
-    let first = identifier-put (goal.at.put_temperatures-aux-requires c).After-put_value-groups in
-    room_first c.put_groups-temperatures.result (temperatures c.args.identifier c.args.row c.args.readings c.args.values) (behind-temperatures c.args.identifier c.args.row c.args.readings c.args.values)
-    (room-second c.args.identifier c.args.row c.args.readings c.args.values c.args.buffer.now c.requires first c.put_groups-temperatures.ensures)
+    let first = identifier_put (goal.at.put_temperatures-aux-requires c).After-put_value-groups in
+    room_first c.put_groups-temperatures.result (temperatures c.args.identifier c.args.row c.args.readings c.args.values) (behind_temperatures c.args.identifier c.args.row c.args.readings c.args.values)
+    (room_second c.args.identifier c.args.row c.args.readings c.args.values c.args.buffer.now c.requires first c.put_groups-temperatures.ensures)
 
 pub put_aux-counter-requires : goal.put_aux-counter-requires
 put_aux-counter-requires c =
@@ -134,24 +134,24 @@ put_aux-counter-requires c =
     let t = c.struct_told-1.given in
     let value : SFits w32 v.aux = record { sfits = omega arith } in
     let status : SFits w32 v.aux_status = record { sfits = omega arith } in
-    let first = identifier-put (goal.at.put_aux-counter-requires c).After-put_value-groups in
+    let first = identifier_put (goal.at.put_aux-counter-requires c).After-put_value-groups in
     room_passed (aux_bytes r.aux (to_z w32 (of_z w32 v.aux))) v.aux_status at status
     (room_passed (λ (z : ℤ). aux_bytes r.aux z v.aux_status) v.aux at value
-    (room_first at (voltage c.args.identifier c.args.row c.args.readings c.args.values) (behind-aux c.args.identifier c.args.row c.args.readings c.args.values) (room-third c.args.identifier c.args.row c.args.readings c.args.values c.args.buffer.now c.requires first c.put_groups-temperatures.ensures c.put_temperatures-aux.ensures)))
+    (room_first at (voltage c.args.identifier c.args.row c.args.readings c.args.values) (behind_aux c.args.identifier c.args.row c.args.readings c.args.values) (room_third c.args.identifier c.args.row c.args.readings c.args.values c.args.buffer.now c.requires first c.put_groups-temperatures.ensures c.put_temperatures-aux.ensures)))
 
 pub put_value-latency-requires : goal.put_value-latency-requires
 put_value-latency-requires c =
-    let first = identifier-put (goal.at.put_value-latency-requires c).After-put_value-groups in
-    let fourth = voltage-put (goal.at.put_value-latency-requires c).After-put_aux-counter in
-    let h = room-fourth c.args.identifier c.args.row c.args.readings c.args.values c.args.buffer.now c.requires first c.put_groups-temperatures.ensures c.put_temperatures-aux.ensures fourth in
+    let first = identifier_put (goal.at.put_value-latency-requires c).After-put_value-groups in
+    let fourth = voltage_put (goal.at.put_value-latency-requires c).After-put_aux-counter in
+    let h = room_fourth c.args.identifier c.args.row c.args.readings c.args.values c.args.buffer.now c.requires first c.put_groups-temperatures.ensures c.put_temperatures-aux.ensures fourth in
     (omega arith, omega arith, omega (arith, length-append (counter c.args.identifier c.args.row c.args.readings c.args.values) (latency c.args.identifier c.args.row c.args.readings c.args.values), value_bytes_length 1 c.args.values.counter))
 
 pub put_value-requires : goal.put_value-requires
 put_value-requires c =
-    let first = identifier-put (goal.at.put_value-requires c).After-put_value-groups in
-    let fourth = voltage-put (goal.at.put_value-requires c).After-put_aux-counter in
-    let fifth = counter-put (goal.at.put_value-requires c).After-put_value-latency in
-    let h = room-fifth c.args.identifier c.args.row c.args.readings c.args.values c.args.buffer.now c.requires first c.put_groups-temperatures.ensures c.put_temperatures-aux.ensures fourth fifth in
+    let first = identifier_put (goal.at.put_value-requires c).After-put_value-groups in
+    let fourth = voltage_put (goal.at.put_value-requires c).After-put_aux-counter in
+    let fifth = counter_put (goal.at.put_value-requires c).After-put_value-latency in
+    let h = room_fifth c.args.identifier c.args.row c.args.readings c.args.values c.args.buffer.now c.requires first c.put_groups-temperatures.ensures c.put_temperatures-aux.ensures fourth fifth in
     (omega arith, omega arith, omega (arith, value_bytes_length 2 c.args.values.latency))
 
 pub returns : goal.returns
@@ -159,8 +159,8 @@ returns c =
     let v = c.args.values in
     let t = c.struct_told-4-1.given in
     let late : SFits w32 v.latency = record { sfits = omega arith } in
-    let first = identifier-put (goal.at.returns c).After-put_value-groups in
-    let fourth = voltage-put (goal.at.returns c).After-put_aux-counter in
-    let fifth = counter-put (goal.at.returns c).After-put_value-latency in
+    let first = identifier_put (goal.at.returns c).After-put_value-groups in
+    let fourth = voltage_put (goal.at.returns c).After-put_aux-counter in
+    let fifth = counter_put (goal.at.returns c).After-put_value-latency in
     whole c.args.identifier c.args.row c.args.readings c.args.values c.args.buffer.now c.requires first c.put_groups-temperatures.ensures c.put_temperatures-aux.ensures fourth fifth
     (put_passed (value_bytes 2) v.latency late c.put_value.ensures)

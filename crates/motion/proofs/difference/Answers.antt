@@ -14,11 +14,11 @@ wrapped : (c : After-wrapping_sub_u32-d) →
 wrapped c = omega (arith, c.wrapping_sub_u32-d.ensures)
 
 -- a signed argument reaches the callee as what is read back from its bits
-new-above : (c : After-above_least) → pos c.above_least.result ≡ c.before.args.new +ℤ pos 2147483648
-new-above c = passed w32 (λ (z : ℤ). z +ℤ pos 2147483648) c.before.args.new c.before.ranges.new c.above_least.ensures
+new_above : (c : After-above_least) → pos c.above_least.result ≡ c.before.args.new +ℤ pos 2147483648
+new_above c = passed w32 (λ (z : ℤ). z +ℤ pos 2147483648) c.before.args.new c.before.ranges.new c.above_least.ensures
 
-old-above : (c : After-above_least-2) → pos c.above_least-2.result ≡ c.before.before.args.old +ℤ pos 2147483648
-old-above c =
+old_above : (c : After-above_least-2) → pos c.above_least-2.result ≡ c.before.before.args.old +ℤ pos 2147483648
+old_above c =
     passed w32 (λ (z : ℤ). z +ℤ pos 2147483648) c.before.before.args.old c.before.before.ranges.old c.above_least-2.ensures
 
 pub returns-then-d-lt8388608 : goal.returns-then-d-lt8388608
@@ -28,7 +28,7 @@ returns-then-d-lt8388608 c =
     let a = d.args in
     let r = d.wrapping_sub_u32-d.result in
     to_z_pos w32 _ (omega arith)
-    ∙ wrapped_low a.new a.old 2147483648 _ _ r _ (new-above (goal.at.returns-then-d-lt8388608 c).After-above_least) (old-above (goal.at.returns-then-d-lt8388608 c).After-above_least-2) (wrapped (goal.at.returns-then-d-lt8388608 c).After-wrapping_sub_u32-d) (omega arith)
+    ∙ wrapped_low a.new a.old 2147483648 _ _ r _ (new_above (goal.at.returns-then-d-lt8388608 c).After-above_least) (old_above (goal.at.returns-then-d-lt8388608 c).After-above_least-2) (wrapped (goal.at.returns-then-d-lt8388608 c).After-wrapping_sub_u32-d) (omega arith)
 
 pub returns-else-d-lt8388608 : goal.returns-else-d-lt8388608
 unfolding difference
@@ -39,4 +39,4 @@ returns-else-d-lt8388608 c =
     let f : SFits w32 (pos (r % 16777216) -ℤ pos 16777216) = record { sfits = omega (arith, wrapped_fits r) } in
     rw (to_z_pos w32 (r % 16777216) (omega arith))
     (to_z-of_z w32 (pos (r % 16777216) -ℤ pos 16777216) f
-    ∙ wrapped_high a.new a.old 2147483648 _ _ r _ (new-above (goal.at.returns-else-d-lt8388608 c).After-above_least) (old-above (goal.at.returns-else-d-lt8388608 c).After-above_least-2) (wrapped (goal.at.returns-else-d-lt8388608 c).After-wrapping_sub_u32-d) (omega arith))
+    ∙ wrapped_high a.new a.old 2147483648 _ _ r _ (new_above (goal.at.returns-else-d-lt8388608 c).After-above_least) (old_above (goal.at.returns-else-d-lt8388608 c).After-above_least-2) (wrapped (goal.at.returns-else-d-lt8388608 c).After-wrapping_sub_u32-d) (omega arith))

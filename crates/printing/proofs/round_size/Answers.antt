@@ -31,8 +31,8 @@ nearest-last-requires c = ((unit (goal.at.nearest-last-requires c).After-power_o
 halved : (c : After-nearest-last) → c.before.before.before.args.size / (c.before.before.power_of_two-unit.result * 2) ≤ c.before.before.before.args.size
 halved c = div-le_self c.before.before.before.args.size (c.before.before.power_of_two-unit.result * 2)
 
-last-small : (c : After-nearest-last) → c.nearest-last.result < 2 ^ 62
-last-small c =
+last_small : (c : After-nearest-last) → c.nearest-last.result < 2 ^ 62
+last_small c =
     let rest = c.before.before.before.args.size % (c.before.before.power_of_two-unit.result * 2) * c.before.power_of_ten-scale.result in
     omega (arith, c.nearest-last.ensures, nearest_at_most rest c.before.before.power_of_two-unit.result (unit c.before).0, small c.before)
 
@@ -40,7 +40,7 @@ pub nonzero_div-whole-2 : goal.nonzero_div-whole-2
 nonzero_div-whole-2 c = (scale (goal.at.nonzero_div-whole-2 c).After-power_of_ten-scale).0
 
 pub overflow_add-whole : goal.overflow_add-whole
-overflow_add-whole c = omega (arith, halved (goal.at.overflow_add-whole c).After-nearest-last, last-small (goal.at.overflow_add-whole c).After-nearest-last, div-le_self c.nearest-last.result c.power_of_ten-scale.result)
+overflow_add-whole c = omega (arith, halved (goal.at.overflow_add-whole c).After-nearest-last, last_small (goal.at.overflow_add-whole c).After-nearest-last, div-le_self c.nearest-last.result c.power_of_ten-scale.result)
 
 pub nonzero_rem-fraction : goal.nonzero_rem-fraction
 nonzero_rem-fraction c = (scale (goal.at.nonzero_rem-fraction c).After-power_of_ten-scale).0

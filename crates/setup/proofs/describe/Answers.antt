@@ -1,4 +1,3 @@
-use mathlib.Core.Path.{sym}
 use Rattle.setup.specs.Sensor.{description_of}
 use Rattle.setup.proofs.describe.Goals as goal
 

@@ -1,4 +1,3 @@
-use mathlib.Core.Path.{◌≡◌, sym}
 use Rattle.setup.proofs.Sensors.{rate_told}
 use Rattle.setup.proofs.rate_listed.Goals as goal
 

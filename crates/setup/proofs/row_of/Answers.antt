@@ -2,7 +2,6 @@ use mathlib.Core.Path.{sym}
 use native.Mathlib.Omega.{arith}
 use Rattle.setup.specs.Layout.{row_at}
 use Rattle.setup.proofs.Ranges.{groups, groups_aux, warm, warm_aux, unlisted}
-use borrow.Author.Rules.{rules}
 use Rattle.setup.proofs.row_of.Goals as goal
 
 pub returns-in-148 : goal.returns-in-148

@@ -1,40 +1,39 @@
 use mathlib.Core.Bool.{true, false, not}
 use mathlib.Core.Path.{◌≡◌, sym, ◌∙◌}
-use borrow.Author.Tests.{lt-ltb, le-ltb, not-false}
+use borrow.Author.Tests.{lt-ltb, le-ltb}
 use Rattle.setup.specs.Layout.{row_at, groups_carried}
 use Rattle.setup.specs.Setup.{rate_listed, is_listed, any_above, stray, setup_rules, ruling_on}
 use Rattle.setup.proofs.Rows.{carried_groups}
-use borrow.Author.Rules.{rules}
 use Rattle.setup.proofs.ruling_by.Goals as goal
 use Rattle.setup.proofs.ruling_by.Goals.{After-groups_of, After-is_listed, After-stray, Else-any_above, Else-any_above-2, Else-not-is_listed, Else-not-rate_listed}
 
 -- what each test leaves behind it
-rate-fine : (c : Else-not-rate_listed) → not (rate_listed c.before.before.args.setup.rate) ≡ false
-rate-fine c = rw (← c.before.rate_listed.ensures, c.if-not-rate_listed.false)
+rate_fine : (c : Else-not-rate_listed) → not (rate_listed c.before.before.args.setup.rate) ≡ false
+rate_fine c = rw (← c.before.rate_listed.ensures, c.if-not-rate_listed.false)
 
-listing-told : (c : After-is_listed) → is_listed (row_at c.before.before.before.args.setup.identifier) ≡ c.is_listed.result
-listing-told c = rw (← c.before.before.before.requires) (sym c.is_listed.ensures)
+listing_told : (c : After-is_listed) → is_listed (row_at c.before.before.before.args.setup.identifier) ≡ c.is_listed.result
+listing_told c = rw (← c.before.before.before.requires) (sym c.is_listed.ensures)
 
-identifier-fine : (c : Else-not-is_listed) → is_listed (row_at c.before.before.before.before.args.setup.identifier) ≡ true
-identifier-fine c = listing-told c.before ∙ c.if-not-is_listed.false
+identifier_fine : (c : Else-not-is_listed) → is_listed (row_at c.before.before.before.before.args.setup.identifier) ≡ true
+identifier_fine c = listing_told c.before ∙ c.if-not-is_listed.false
 
-units-fine : (c : Else-any_above) → any_above 3 c.before.before.before.before.before.before.before.before.before.args.setup.units ≡ false
-units-fine c = sym c.before.any_above.ensures ∙ c.if-any_above.false
+units_fine : (c : Else-any_above) → any_above 3 c.before.before.before.before.before.before.before.before.before.args.setup.units ≡ false
+units_fine c = sym c.before.any_above.ensures ∙ c.if-any_above.false
 
-shifts-fine : (c : Else-any_above-2) → let at = c.before.before.before.before.before.before in any_above 31 at.before.before.before.before.before.before.args.setup.shifts ≡ false
-shifts-fine c = sym c.before.any_above-2.ensures ∙ c.if-any_above-2.false
+shifts_fine : (c : Else-any_above-2) → let at = c.before.before.before.before.before.before in any_above 31 at.before.before.before.before.before.before.args.setup.shifts ≡ false
+shifts_fine c = sym c.before.any_above-2.ensures ∙ c.if-any_above-2.false
 
-groups-told : (c : After-groups_of) → let at = c.before.before.before.before.before.before.before in c.groups_of.result ≡ groups_carried at.before.before.before.before.before.before.before.args.setup.identifier
-groups-told c =
+groups_told : (c : After-groups_of) → let at = c.before.before.before.before.before.before.before in c.groups_of.result ≡ groups_carried at.before.before.before.before.before.before.before.args.setup.identifier
+groups_told c =
     let at = c.before.before.before.before.before.before.before in
     let start = at.before.before.before.before.before.before.before in
     rw (c.groups_of.ensures, c.before.listed_row.ensures, start.requires)
-    (sym (carried_groups start.args.setup.identifier (identifier-fine at.before.before.before)))
+    (sym (carried_groups start.args.setup.identifier (identifier_fine at.before.before.before)))
 
 stray_told :
     (c : After-stray) → let at = c.before.before.before.before.before.before.before in let u = at.before.before.before.before.before.before.before.before.args.setup in
     stray (groups_carried u.identifier) u.units u.shifts ≡ c.stray.result
-stray_told c = rw (← groups-told c.before) (sym c.stray.ensures)
+stray_told c = rw (← groups_told c.before) (sym c.stray.ensures)
 
 pub returns-then-not-rate_listed : goal.returns-then-not-rate_listed
 unfolding ruling_on setup_rules
@@ -42,18 +41,18 @@ returns-then-not-rate_listed c = rw (← c.rate_listed.ensures, c.if-not-rate_li
 
 pub returns-then-not-is_listed : goal.returns-then-not-is_listed
 unfolding ruling_on setup_rules
-returns-then-not-is_listed c = rw (rate-fine (goal.at.returns-then-not-is_listed c).Else-not-rate_listed, listing-told (goal.at.returns-then-not-is_listed c).After-is_listed, c.if-not-is_listed.true)
+returns-then-not-is_listed c = rw (rate_fine (goal.at.returns-then-not-is_listed c).Else-not-rate_listed, listing_told (goal.at.returns-then-not-is_listed c).After-is_listed, c.if-not-is_listed.true)
 
 pub returns-then-setup-gt1 : goal.returns-then-setup-gt1
 unfolding ruling_on setup_rules
-returns-then-setup-gt1 c = rw (rate-fine (goal.at.returns-then-setup-gt1 c).Else-not-rate_listed, identifier-fine (goal.at.returns-then-setup-gt1 c).Else-not-is_listed, lt-ltb _ _ c.if-setup-gt1.true)
+returns-then-setup-gt1 c = rw (rate_fine (goal.at.returns-then-setup-gt1 c).Else-not-rate_listed, identifier_fine (goal.at.returns-then-setup-gt1 c).Else-not-is_listed, lt-ltb _ _ c.if-setup-gt1.true)
 
 pub returns-then-any_above : goal.returns-then-any_above
 unfolding ruling_on setup_rules
 returns-then-any_above c =
     rw (
-      rate-fine (goal.at.returns-then-any_above c).Else-not-rate_listed,
-      identifier-fine (goal.at.returns-then-any_above c).Else-not-is_listed,
+      rate_fine (goal.at.returns-then-any_above c).Else-not-rate_listed,
+      identifier_fine (goal.at.returns-then-any_above c).Else-not-is_listed,
       le-ltb _ _ c.if-setup-gt1.false,
       sym c.any_above.ensures ∙ c.if-any_above.true,
     )
@@ -62,10 +61,10 @@ pub returns-then-any_above-2 : goal.returns-then-any_above-2
 unfolding ruling_on setup_rules
 returns-then-any_above-2 c =
     rw (
-      rate-fine (goal.at.returns-then-any_above-2 c).Else-not-rate_listed,
-      identifier-fine (goal.at.returns-then-any_above-2 c).Else-not-is_listed,
+      rate_fine (goal.at.returns-then-any_above-2 c).Else-not-rate_listed,
+      identifier_fine (goal.at.returns-then-any_above-2 c).Else-not-is_listed,
       le-ltb _ _ c.if-setup-gt1.false,
-      units-fine (goal.at.returns-then-any_above-2 c).Else-any_above,
+      units_fine (goal.at.returns-then-any_above-2 c).Else-any_above,
       sym c.any_above-2.ensures ∙ c.if-any_above-2.true,
     )
 
@@ -73,11 +72,11 @@ pub returns-then-stray : goal.returns-then-stray
 unfolding ruling_on setup_rules
 returns-then-stray c =
     rw (
-      rate-fine (goal.at.returns-then-stray c).Else-not-rate_listed,
-      identifier-fine (goal.at.returns-then-stray c).Else-not-is_listed,
+      rate_fine (goal.at.returns-then-stray c).Else-not-rate_listed,
+      identifier_fine (goal.at.returns-then-stray c).Else-not-is_listed,
       le-ltb _ _ c.if-setup-gt1.false,
-      units-fine (goal.at.returns-then-stray c).Else-any_above,
-      shifts-fine (goal.at.returns-then-stray c).Else-any_above-2,
+      units_fine (goal.at.returns-then-stray c).Else-any_above,
+      shifts_fine (goal.at.returns-then-stray c).Else-any_above-2,
       stray_told (goal.at.returns-then-stray c).After-stray ∙ c.if-stray.true,
     )
 
@@ -85,10 +84,10 @@ pub returns : goal.returns
 unfolding ruling_on setup_rules
 returns c =
     rw (
-      rate-fine (goal.at.returns c).Else-not-rate_listed,
-      identifier-fine (goal.at.returns c).Else-not-is_listed,
+      rate_fine (goal.at.returns c).Else-not-rate_listed,
+      identifier_fine (goal.at.returns c).Else-not-is_listed,
       le-ltb _ _ c.if-setup-gt1.false,
-      units-fine (goal.at.returns c).Else-any_above,
-      shifts-fine (goal.at.returns c).Else-any_above-2,
+      units_fine (goal.at.returns c).Else-any_above,
+      shifts_fine (goal.at.returns c).Else-any_above-2,
       stray_told (goal.at.returns c).After-stray ∙ c.if-stray.false,
     )

@@ -1,5 +1,4 @@
 use Rattle.setup.specs.Sensor.{sensor_of}
-use borrow.Author.Rules.{rules}
 use Rattle.setup.proofs.sensor_of.Goals as goal
 
 pub returns : goal.returns

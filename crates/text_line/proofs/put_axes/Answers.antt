@@ -20,11 +20,11 @@ use Rattle.text_line.proofs.put_axes.Goals as goal
 abbrev axis : Bool → List ℤ → ℕ → List ℕ
 axis carried row i = shown_if carried (decimal (get_or row i (pos 0)))
 
-abbrev from-z : Bool → List ℤ → List (List ℕ)
-from-z carried row = axis carried row 2 ∷ []
+abbrev from_z : Bool → List ℤ → List (List ℕ)
+from_z carried row = axis carried row 2 ∷ []
 
-abbrev from-y : Bool → List ℤ → List (List ℕ)
-from-y carried row = axis carried row 1 ∷ from-z carried row
+abbrev from_y : Bool → List ℤ → List (List ℕ)
+from_y carried row = axis carried row 1 ∷ from_z carried row
 
 -- what is put of an axis is its field
 field_put :
@@ -38,8 +38,8 @@ put_signed-requires c =
     let carried = c.args.carried in
     let x = field_put carried (get_or row 0 (pos 0)) (search rules) c.put_signed-x.ensures in
     let y = field_put carried (get_or row 1 (pos 0)) (search rules) c.put_signed-y.ensures in
-    let room-y = room_then x (behind (from-y carried row)) c.requires in
-    rw (element_same (get_or row 2 (pos 0)) (search rules)) (room_field (axis carried row 2) [] c.put_signed-y.result (room_then y (behind (from-z carried row)) room-y))
+    let room-y = room_then x (behind (from_y carried row)) c.requires in
+    rw (element_same (get_or row 2 (pos 0)) (search rules)) (room_field (axis carried row 2) [] c.put_signed-y.result (room_then y (behind (from_z carried row)) room-y))
 
 pub returns : goal.returns
 returns c =

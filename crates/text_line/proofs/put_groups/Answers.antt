@@ -17,23 +17,23 @@ accelerometer s = group_fields (get_or s.args.carried 1 false) (get_or s.args.ke
 abbrev inclinometer : Start → List (List ℕ)
 inclinometer s = group_fields (get_or s.args.carried 2 false) (get_or s.args.kept 2 false) (get_or s.args.readings 2 []) (get_or s.args.statuses 2 0) s.args.totals.inclinometer
 
-abbrev from-accelerometer : Start → List (List ℕ)
-from-accelerometer s = accelerometer s ++ inclinometer s
+abbrev from_accelerometer : Start → List (List ℕ)
+from_accelerometer s = accelerometer s ++ inclinometer s
 
-room-second : (c : After-put_group-first) → c.put_group-first.result + length (behind (from-accelerometer c.before.before.before.before.before)) ≤ length c.put_group-first.new.buffer
+room_second : (c : After-put_group-first) → c.put_group-first.result + length (behind (from_accelerometer c.before.before.before.before.before)) ≤ length c.put_group-first.new.buffer
 unfolding groups_fields
-room-second c = room_more (gyro c.before.before.before.before.before) (from-accelerometer c.before.before.before.before.before) c.put_group-first.ensures c.before.before.before.before.before.requires
+room_second c = room_more (gyro c.before.before.before.before.before) (from_accelerometer c.before.before.before.before.before) c.put_group-first.ensures c.before.before.before.before.before.requires
 
 pub put_group-first-requires : goal.put_group-first-requires
 unfolding groups_fields
-put_group-first-requires c = room_fields (gyro (goal.at.put_group-first-requires c).Start) (from-accelerometer (goal.at.put_group-first-requires c).Start) c.args.at c.requires
+put_group-first-requires c = room_fields (gyro (goal.at.put_group-first-requires c).Start) (from_accelerometer (goal.at.put_group-first-requires c).Start) c.args.at c.requires
 
 pub put_group-second-requires : goal.put_group-second-requires
-put_group-second-requires c = room_fields (accelerometer (goal.at.put_group-second-requires c).Start) (inclinometer (goal.at.put_group-second-requires c).Start) c.put_group-first.result (room-second (goal.at.put_group-second-requires c).After-put_group-first)
+put_group-second-requires c = room_fields (accelerometer (goal.at.put_group-second-requires c).Start) (inclinometer (goal.at.put_group-second-requires c).Start) c.put_group-first.result (room_second (goal.at.put_group-second-requires c).After-put_group-first)
 
 pub put_group-requires : goal.put_group-requires
-put_group-requires c = room_more (accelerometer (goal.at.put_group-requires c).Start) (inclinometer (goal.at.put_group-requires c).Start) c.put_group-second.ensures (room-second (goal.at.put_group-requires c).After-put_group-first)
+put_group-requires c = room_more (accelerometer (goal.at.put_group-requires c).Start) (inclinometer (goal.at.put_group-requires c).Start) c.put_group-second.ensures (room_second (goal.at.put_group-requires c).After-put_group-first)
 
 pub returns : goal.returns
 unfolding groups_fields
-returns c = then_fields (gyro (goal.at.returns c).Start) (from-accelerometer (goal.at.returns c).Start) c.put_group-first.ensures (then_fields (accelerometer (goal.at.returns c).Start) (inclinometer (goal.at.returns c).Start) c.put_group-second.ensures c.put_group.ensures)
+returns c = then_fields (gyro (goal.at.returns c).Start) (from_accelerometer (goal.at.returns c).Start) c.put_group-first.ensures (then_fields (accelerometer (goal.at.returns c).Start) (inclinometer (goal.at.returns c).Start) c.put_group-second.ensures c.put_group.ensures)

@@ -27,28 +27,28 @@ text : (s : Start)
 text s =
     line_text_lem s.args.shown s.args.heading.ordinal.0 s.args.heading.counter s.args.heading.latency s.args.heading.gap s.args.readings s.args.statuses s.args.totals
 
-room-all : (s : Start) → 0 + length (heading s ++ rest s) ≤ length s.args.buffer.now
-room-all s = omega (arith, ap length (text s), s.requires)
+room_all : (s : Start) → 0 + length (heading s ++ rest s) ≤ length s.args.buffer.now
+room_all s = omega (arith, ap length (text s), s.requires)
 
-room-rest : (c : After-put_heading-at) → c.put_heading-at.result + length (rest c.before.before.before.before.before) ≤ length c.put_heading-at.new.buffer
-room-rest c = let s = c.before.before.before.before.before in room_then c.put_heading-at.ensures (rest s) (room-all s)
+room_rest : (c : After-put_heading-at) → c.put_heading-at.result + length (rest c.before.before.before.before.before) ≤ length c.put_heading-at.new.buffer
+room_rest c = let s = c.before.before.before.before.before in room_then c.put_heading-at.ensures (rest s) (room_all s)
 
-room-end : (c : After-put_groups-end) → c.put_groups-end.result + 1 ≤ length c.put_groups-end.new.buffer
-room-end c = room_then c.put_groups-end.ensures (0x0A ∷ []) (room-rest c.before.before.before.before)
+room_end : (c : After-put_groups-end) → c.put_groups-end.result + 1 ≤ length c.put_groups-end.new.buffer
+room_end c = room_then c.put_groups-end.ensures (0x0A ∷ []) (room_rest c.before.before.before.before)
 
 pub put_heading-at-requires : goal.put_heading-at-requires
-put_heading-at-requires c = let s = (goal.at.put_heading-at-requires c).Start in rw (zero-add (length (heading s))) at (room_first 0 (heading s) (rest s) (room-all s))
+put_heading-at-requires c = let s = (goal.at.put_heading-at-requires c).Start in rw (zero-add (length (heading s))) at (room_first 0 (heading s) (rest s) (room_all s))
 
 pub put_groups-end-requires : goal.put_groups-end-requires
 put_groups-end-requires c =
     let p = c in
-    room_first p.put_heading-at.result (groups (goal.at.put_groups-end-requires c).Start) (0x0A ∷ []) (room-rest (goal.at.put_groups-end-requires c).After-put_heading-at)
+    room_first p.put_heading-at.result (groups (goal.at.put_groups-end-requires c).Start) (0x0A ∷ []) (room_rest (goal.at.put_groups-end-requires c).After-put_heading-at)
 
 pub bounds-buffer-end : goal.bounds-buffer-end
-bounds-buffer-end c = omega (arith, room-end (goal.at.bounds-buffer-end c).After-put_groups-end)
+bounds-buffer-end c = omega (arith, room_end (goal.at.bounds-buffer-end c).After-put_groups-end)
 
 pub overflow_add-result : goal.overflow_add-result
-overflow_add-result c = omega (arith, room-end (goal.at.overflow_add-result c).After-put_groups-end)
+overflow_add-result c = omega (arith, room_end (goal.at.overflow_add-result c).After-put_groups-end)
 
 pub returns : goal.returns
 returns c =

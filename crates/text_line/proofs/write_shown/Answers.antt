@@ -31,20 +31,20 @@ by OffStep p = tt
 gap_fits : (c : Start) → MissedFits c.args.gap
 gap_fits c = by c.args.gap c.well_formed.1.1.1.1.1.0
 
-status-fits : (c : Start) (i : ℕ) → Fits w8 (get_or c.args.statuses i 0)
-status-fits c i = search rules
+status_fits : (c : Start) (i : ℕ) → Fits w8 (get_or c.args.statuses i 0)
+status_fits c i = search rules
 
 -- only 14 is left to refuse the line
-inside-limits : (c : Else-outside) → let a = c.before.before.before.args in outside a.ordinal.0 a.readings a.totals ≡ false
-inside-limits c = sym c.before.outside.ensures ∙ c.if-outside.false
+inside_limits : (c : Else-outside) → let a = c.before.before.before.args in outside a.ordinal.0 a.readings a.totals ≡ false
+inside_limits c = sym c.before.outside.ensures ∙ c.if-outside.false
 
 short : (c : Else-outside) → length (line c.before.before.before.before) ≤ longest_line
 short c =
     let s = c.before.before.before.before in
     let a = s.args in
-    let h = inside a.ordinal.0 a.readings a.totals (inside-limits c) in
+    let h = inside a.ordinal.0 a.readings a.totals (inside_limits c) in
     shown_longest a.shown a.ordinal.0 a.counter a.latency a.gap a.readings a.statuses a.totals
-    (omega arith) (omega arith) (omega arith) (gap_fits s) (λ i. (status-fits s i).fits) h.0 h.1
+    (omega arith) (omega arith) (omega arith) (gap_fits s) (λ i. (status_fits s i).fits) h.0 h.1
 
 pub returns-then-outside : goal.returns-then-outside
 returns-then-outside c =
@@ -59,7 +59,7 @@ pub returns-then-buffer-longest_line : goal.returns-then-buffer-longest_line
 returns-then-buffer-longest_line c =
     let a = c.args in
     let w = apart_written a.buffer.now a.shown a.ordinal.0 a.counter a.latency a.gap a.readings a.statuses a.totals
-    (inside-limits (goal.at.returns-then-buffer-longest_line c).Else-outside) (c.write_apart.ensures.fact_1, c.write_apart.ensures.fact_2) in
+    (inside_limits (goal.at.returns-then-buffer-longest_line c).Else-outside) (c.write_apart.ensures.fact_1, c.write_apart.ensures.fact_2) in
     record { fact_1 = w.0; fact_2 = w.1 }
 
 pub put_line-requires : goal.put_line-requires
@@ -68,6 +68,6 @@ put_line-requires c = omega (arith, short (goal.at.put_line-requires c).Else-out
 pub returns : goal.returns
 returns c =
     let a = c.args in
-    let w = put_written a.buffer.now a.shown a.ordinal.0 a.counter a.latency a.gap a.readings a.statuses a.totals (inside-limits (goal.at.returns c).Else-outside)
+    let w = put_written a.buffer.now a.shown a.ordinal.0 a.counter a.latency a.gap a.readings a.statuses a.totals (inside_limits (goal.at.returns c).Else-outside)
     (omega (arith, short (goal.at.returns c).Else-outside, c.longest_line.ensures, c.if-buffer-longest_line.false)) c.put_line.ensures in
     record { fact_1 = w.0; fact_2 = w.1 }
