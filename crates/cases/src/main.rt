@@ -11,9 +11,10 @@
 ghost use Rattle.std.specs.Prelude.{◌≡◌, ◌≤◌, length};
 
 use gaps::Gap;
-use libc::{STDIN_FILENO, STDOUT_FILENO};
 use motion::{GroupJudgements, Judgement};
 use setup::{Described, Listing, Rate, Row, Setup};
+use std::io;
+use std::io::Write;
 
 // Where the word k of a given begins, or its end.
 fn word_start(given: &[u8], k: usize) -> usize
@@ -295,30 +296,31 @@ fn passes(given: &[u8]) -> bool {
     }
 }
 
-fn run(given: &[u8]) {
+fn run<W: Write>(writer: &mut W, given: &[u8]) -> io::Result<()> {
     if passes(given) {
-        io::write_all(STDOUT_FILENO, b"ok ");
+        writer.write_all(b"ok ")?;
     } else {
-        io::write_all(STDOUT_FILENO, b"WRONG ");
+        writer.write_all(b"WRONG ")?;
     }
-    io::write_all(STDOUT_FILENO, given);
-    io::write_all(STDOUT_FILENO, b"\n");
+    writer.write_all(given)?;
+    writer.write_all(b"\n")
 }
 
-fn run_all(text: &[u8]) {
+fn run_all<W: Write>(writer: &mut W, text: &[u8]) -> io::Result<()> {
     let mut from: usize = 0;
     let mut i: usize = 0;
     while i < text.len() {
         if text[i] == 0x0A {
-            run(&text[from..i]);
+            run(writer, &text[from..i])?;
             from = i + 1;
         }
         i += 1;
     }
+    Ok(())
 }
 
-fn main() {
-    let mut buffer = io::large_buffer();
-    let count = io::read_full(STDIN_FILENO, &mut buffer);
-    run_all(&buffer[..count]);
+fn main(rt: HostRuntime) -> io::Result<()> {
+    let mut buffer = console::large_buffer();
+    let count = console::read_full(&mut rt.stdin(), &mut buffer);
+    run_all(&mut rt.stdout(), &buffer[..count])
 }

@@ -26,7 +26,6 @@ use given::{
     session_of, setup_of, shift_of, size_of, statuses_of, totals_of, value_fill_of, value_room_of,
     values_of,
 };
-use libc::STDIN_FILENO;
 use made_datagram::Made;
 use rehearsal::Rehearsed;
 use shown::{
@@ -35,33 +34,35 @@ use shown::{
     put_written,
 };
 use shown_line::Written;
+use std::io;
+use std::io::{BufWriter, Read, Write};
 use whole_piece::{Batch, Received};
 
 // A setup: what judging it answers, and what opening does.
-fn setup_record(s: &[u8]) {
+fn setup_record<W: Write>(writer: &mut W, s: &[u8]) -> io::Result<()> {
     let setup = setup_of(s);
     let opened = session::open(setup);
     let answer = opened.answer;
-    put_text(b" setup");
-    put_ruling(setup::judge(setup));
-    put_ruling(answer);
-    end_line();
-    put_session(opened.session);
+    put_text(writer, b" setup")?;
+    put_ruling(writer, setup::judge(setup))?;
+    put_ruling(writer, answer)?;
+    end_line(writer)?;
+    put_session(writer, opened.session)
 }
 
 // A call of feed.
-fn feed_record(s: &[u8]) {
+fn feed_record<W: Write>(writer: &mut W, s: &[u8]) -> io::Result<()> {
     if s.len() < SESSION_SIZE {
-        return;
+        return Ok(());
     }
     let reply = receiver::feed(session_of(s), &s[SESSION_SIZE..]);
     let answer = reply.answer;
-    put_text(b" feed");
-    put_answer(answer);
-    put_number(reply.taken as u64);
-    end_line();
-    put_session(reply.session);
-    put_datagram(reply.datagram);
+    put_text(writer, b" feed")?;
+    put_answer(writer, answer)?;
+    put_number(writer, reply.taken as u64)?;
+    end_line(writer)?;
+    put_session(writer, reply.session)?;
+    put_datagram(writer, reply.datagram)
 }
 
 fn write_given(buffer: &mut [u8], s: &[u8]) -> Written {
@@ -90,33 +91,33 @@ fn filled(fill: u8) -> [u8; 400]
     [fill; 400]
 }
 
-fn put_buffer(buffer: [u8; 400], room: usize)
+fn put_buffer<W: Write>(writer: &mut W, buffer: [u8; 400], room: usize) -> io::Result<()>
     requires { room ≤ 400 }
 {
-    put_bytes(&buffer[0..room]);
+    put_bytes(writer, &buffer[0..room])
 }
 
 // A text line, with all of the buffer behind the answer.
-fn line_record(s: &[u8]) {
+fn line_record<W: Write>(writer: &mut W, s: &[u8]) -> io::Result<()> {
     let room = (room_of(s) % 401) as usize;
     let mut buffer = filled(fill_of(s));
     let written = write_given(&mut buffer[0..room], s);
-    put_text(b" line");
-    put_written(written);
-    put_buffer(buffer, room);
-    end_line();
+    put_text(writer, b" line")?;
+    put_written(writer, written)?;
+    put_buffer(writer, buffer, room)?;
+    end_line(writer)
 }
 
 // A setup line: the answer, and the setup that it gives back.
-fn setup_line_record(s: &[u8]) {
+fn setup_line_record<W: Write>(writer: &mut W, s: &[u8]) -> io::Result<()> {
     let read = setup_line::read_line(s);
     let answer = read.answer;
-    put_text(b" read");
-    put_ruling(answer);
-    end_line();
-    put_text(b"setup");
-    put_setup(read.setup);
-    end_line();
+    put_text(writer, b" read")?;
+    put_ruling(writer, answer)?;
+    end_line(writer)?;
+    put_text(writer, b"setup")?;
+    put_setup(writer, read.setup)?;
+    end_line(writer)
 }
 
 // How many bytes at the front are this byte.
@@ -144,30 +145,36 @@ fn written_of(received: Received, room: usize) -> usize
 }
 
 // The bytes behind the lines: how many are as they were filled, and what follows these.
-fn put_rest(bytes: &[u8], fill: u8) {
+fn put_rest<W: Write>(writer: &mut W, bytes: &[u8], fill: u8) -> io::Result<()> {
     let count = equal_bytes(bytes, fill);
-    put_text(b"rest");
-    put_number(count as u64);
-    put_bytes(&bytes[count..]);
-    end_line();
+    put_text(writer, b"rest")?;
+    put_number(writer, count as u64)?;
+    put_bytes(writer, &bytes[count..])?;
+    end_line(writer)
 }
 
 // The lines as they stand in the buffer, and the rest.
-fn put_lines(buffer: &[u8], used: usize, fill: u8)
+fn put_lines<W: Write>(writer: &mut W, buffer: &[u8], used: usize, fill: u8) -> io::Result<()>
     requires { used ≤ length buffer.now }
 {
-    put_text(&buffer[0..used]);
-    put_rest(&buffer[used..], fill);
+    put_text(writer, &buffer[0..used])?;
+    put_rest(writer, &buffer[used..], fill)
 }
 
-fn put_batch(batch: Batch, buffer: [u8; 72001], room: usize, fill: u8)
+fn put_batch<W: Write>(
+    writer: &mut W,
+    batch: Batch,
+    buffer: [u8; 72001],
+    room: usize,
+    fill: u8,
+) -> io::Result<()>
     requires { room ≤ 72001 }
 {
     let answer = batch.answer;
-    put_received(answer);
-    end_line();
-    put_session(batch.session);
-    put_lines(&buffer[0..room], written_of(answer, room), fill);
+    put_received(writer, answer)?;
+    end_line(writer)?;
+    put_session(writer, batch.session)?;
+    put_lines(writer, &buffer[0..room], written_of(answer, room), fill)
 }
 
 fn filled_for_lines(fill: u8) -> [u8; 72001]
@@ -177,16 +184,16 @@ fn filled_for_lines(fill: u8) -> [u8; 72001]
 }
 
 // A whole piece at once, with all of the buffer behind the answer.
-fn lines_record(s: &[u8]) {
+fn lines_record<W: Write>(writer: &mut W, s: &[u8]) -> io::Result<()> {
     if s.len() < SESSION_SIZE + 5 {
-        return;
+        return Ok(());
     }
     let room = (lines_room_of(s) % 72002) as usize;
     let fill = lines_fill_of(s);
     let mut buffer = filled_for_lines(fill);
     let batch = lines::receive_lines(session_of(s), &s[SESSION_SIZE + 5..], &mut buffer[0..room]);
-    put_text(b" lines");
-    put_batch(batch, buffer, room, fill);
+    put_text(writer, b" lines")?;
+    put_batch(writer, batch, buffer, room, fill)
 }
 
 fn make_given(buffer: &mut [u8], s: &[u8]) -> Made {
@@ -197,30 +204,30 @@ fn make_given(buffer: &mut [u8], s: &[u8]) -> Made {
 }
 
 // A datagram, with all of the buffer behind the answer.
-fn made_record(s: &[u8]) {
+fn made_record<W: Write>(writer: &mut W, s: &[u8]) -> io::Result<()> {
     let room = (made_room_of(s) % 401) as usize;
     let mut buffer = filled(made_fill_of(s));
     let made = make_given(&mut buffer[0..room], s);
-    put_text(b" made");
-    put_made(made);
-    put_buffer(buffer, room);
-    end_line();
+    put_text(writer, b" made")?;
+    put_made(writer, made)?;
+    put_buffer(writer, buffer, room)?;
+    end_line(writer)
 }
 
 // A rehearsal line: whether it is written as it should be, and then its values.
-fn rehearsal_record(s: &[u8]) {
+fn rehearsal_record<W: Write>(writer: &mut W, s: &[u8]) -> io::Result<()> {
     let rehearsed = rehearsal::judge_line(s);
-    put_text(b" rehearsal");
-    put_rehearsed(rehearsed);
+    put_text(writer, b" rehearsal")?;
+    put_rehearsed(writer, rehearsed)?;
     if let Rehearsed::Written = rehearsed {
-        put_grid(rehearsal::readings_of(s));
-        put_given(rehearsal::values_of(s));
+        put_grid(writer, rehearsal::readings_of(s))?;
+        put_given(writer, rehearsal::values_of(s))?;
     }
-    end_line();
+    end_line(writer)
 }
 
 // A value, with all of the buffer behind the answer.
-fn value_record(s: &[u8]) {
+fn value_record<W: Write>(writer: &mut W, s: &[u8]) -> io::Result<()> {
     let room = (value_room_of(s) % 401) as usize;
     let mut buffer = filled(value_fill_of(s));
     let printed = printing::print_value(
@@ -229,28 +236,34 @@ fn value_record(s: &[u8]) {
         shift_of(s),
         places_of(s),
     );
-    put_text(b" value");
-    put_printed(printed);
-    put_buffer(buffer, room);
-    end_line();
+    put_text(writer, b" value")?;
+    put_printed(writer, printed)?;
+    put_buffer(writer, buffer, room)?;
+    end_line(writer)
 }
 
-fn answer_record(number: u64, kind: u8, payload: [u8; 6144], size: usize)
+fn answer_record<W: Write>(
+    writer: &mut W,
+    number: u64,
+    kind: u8,
+    payload: [u8; 6144],
+    size: usize,
+) -> io::Result<()>
     requires { size ≤ 6144 }
 {
     let s = &payload[0..size];
-    put_text(b"record");
-    put_number(number);
+    put_text(writer, b"record")?;
+    put_number(writer, number)?;
     match kind {
-        1 => setup_record(s),
-        2 => feed_record(s),
-        3 => line_record(s),
-        4 => setup_line_record(s),
-        5 => lines_record(s),
-        6 => made_record(s),
-        7 => rehearsal_record(s),
-        8 => value_record(s),
-        _ => end_line(),
+        1 => setup_record(writer, s),
+        2 => feed_record(writer, s),
+        3 => line_record(writer, s),
+        4 => setup_line_record(writer, s),
+        5 => lines_record(writer, s),
+        6 => made_record(writer, s),
+        7 => rehearsal_record(writer, s),
+        8 => value_record(writer, s),
+        _ => end_line(writer),
     }
 }
 
@@ -262,28 +275,33 @@ fn room() -> [u8; 6144]
 }
 
 // Reads a record and answers it; whether there was a whole one.
-fn next_record(number: u64) -> bool {
+fn next_record<R: Read, W: Write>(reader: &mut R, writer: &mut W, number: u64) -> io::Result<bool> {
     let mut head = [0u8; 3];
-    let begun = io::read_full(STDIN_FILENO, &mut head);
+    let begun = console::read_full(reader, &mut head);
     let size = size_of(&head) as usize;
     let mut payload = room();
     if begun < 3 {
-        return false;
+        return Ok(false);
     }
     if 6144 < size {
-        return false;
+        return Ok(false);
     }
-    let count = io::read_full(STDIN_FILENO, &mut payload[0..size]);
+    let count = console::read_full(reader, &mut payload[0..size]);
     if count < size {
-        return false;
+        return Ok(false);
     }
-    answer_record(number, head[0], payload, size);
-    true
+    answer_record(writer, number, head[0], payload, size)?;
+    writer.flush()?;
+    Ok(true)
 }
 
-fn main() {
-    let mut number: u64 = 1;
-    while number < 1000000000000 && next_record(number) {
-        number += 1;
+fn main(rt: HostRuntime) -> io::Result<()> {
+    let mut reader = rt.stdin();
+    let mut writer = BufWriter::new(rt.alloc(), rt.stdout())?;
+    for number in 1..1000000000000u64 {
+        if !next_record(&mut reader, &mut writer, number)? {
+            break;
+        }
     }
+    Ok(())
 }

@@ -8,9 +8,10 @@ ghost use Rattle.admission.specs.Admission.{piece_ruling};
 ghost use Rattle.whole_piece.specs.Lines.{lines_in, enough};
 ghost use Rattle.stim_bench.specs.Bench.{first_line, Opens, GotWithin, Feedable, HasLeft, part_lines, with_text, IsGathered, AreFed};
 
-use libc::{STDERR_FILENO, STDIN_FILENO, STDOUT_FILENO};
 use session::Session;
 use setup::{Ruling, Setup};
+use std::io;
+use std::io::{ErrorKind, Read, Write};
 use whole_piece::Received;
 
 // The most bytes of a piece and of a session, 2^34 (01, What is turned down, 11 and 12).
@@ -77,49 +78,53 @@ fn part_end(at: usize, length: usize, most: usize) -> usize
     }
 }
 
+// Says on standard error why a read failed.
+fn tell_failed<E: Write>(errors: &mut E, error: io::Error) {
+    let _ = writeln!(errors, "standard input: {error}");
+}
+
 // One read of standard input.
-fn read_some(buffer: &mut [u8]) -> Got
+fn read_some<R: Read, E: Write>(reader: &mut R, errors: &mut E, buffer: &mut [u8]) -> Got
     ensures { GotWithin result (length buffer.new) }
 {
-    let got = libc::read(STDIN_FILENO, buffer);
-    if got < 0 {
-        os::fail(b"standard input");
-        return Got::Failed;
+    match reader.read(buffer) {
+        Ok(0) => Got::End,
+        Ok(count) => Got::Bytes(count),
+        Err(error) => {
+            tell_failed(errors, error);
+            Got::Failed
+        }
     }
-    let count = io::count(got, buffer);
-    if count == 0 {
-        return Got::End;
-    }
-    Got::Bytes(count)
 }
 
-// Says on standard error that a write failed or took nothing.
-fn tell_closed() {
-    io::write_all(STDERR_FILENO, b"standard output takes nothing more\n");
+// Says on standard error that a write failed or took nothing. Where nobody reads standard output any more the program ends without a word.
+fn tell_closed<E: Write>(errors: &mut E, error: io::Error) {
+    if error.kind() != ErrorKind::BrokenPipe {
+        let _ = errors.write_all(b"standard output takes nothing more\n");
+    }
 }
 
-fn print_refusal(number: u8) {
-    let mut is_written = io::write_all(STDOUT_FILENO, b"refused ");
-    if is_written {
-        is_written = io::print_decimal(STDOUT_FILENO, number as u64);
-    }
-    if is_written {
-        is_written = io::write_all(STDOUT_FILENO, b"\n");
-    }
-    if !is_written {
-        tell_closed();
+fn print_refusal<W: Write, E: Write>(writer: &mut W, errors: &mut E, number: u8) {
+    if let Err(error) = writeln!(writer, "refused {number}") {
+        tell_closed(errors, error);
     }
 }
 
 // Writes out the lines of bytes that a session is fed, and tells whether standard output took them. Only the contract speaks of session and bytes.
-fn write_lines(session: Session, bytes: &[u8], lines: &[u8]) -> bool
+fn write_lines<W: Write, E: Write>(
+    writer: &mut W,
+    errors: &mut E,
+    session: Session,
+    bytes: &[u8],
+    lines: &[u8],
+) -> bool
     requires { lines.now ≡ lines_in session bytes.now }
 {
-    if io::write_all(STDOUT_FILENO, lines) {
-        return true;
+    if let Err(error) = writer.write_all(lines) {
+        tell_closed(errors, error);
+        return false;
     }
-    tell_closed();
-    false
+    true
 }
 
 // Feeds a part that no number refuses: its lines come to the front of the buffer.
@@ -166,7 +171,13 @@ fn gather(start: Session, bytes: &[u8], output: &mut [u8]) -> Gathered
 }
 
 // Feeds bytes and writes out their lines, as many at once as the buffer has room for.
-fn feed_bytes(start: Session, bytes: &[u8], output: &mut [u8]) -> BytesFed
+fn feed_bytes<W: Write, E: Write>(
+    writer: &mut W,
+    errors: &mut E,
+    start: Session,
+    bytes: &[u8],
+    output: &mut [u8],
+) -> BytesFed
     requires { Feedable start (length bytes.now) × (enough ≤ length output.old) }
     ensures { AreFed start bytes.now result }
 {
@@ -176,7 +187,7 @@ fn feed_bytes(start: Session, bytes: &[u8], output: &mut [u8]) -> BytesFed
         let gathered = gather(session, &bytes[at..], output);
         let end = at + gathered.taken;
         let used = gathered.used;
-        let is_open = write_lines(session, &bytes[at..end], &output[..used]);
+        let is_open = write_lines(writer, errors, session, &bytes[at..end], &output[..used]);
         session = gathered.session;
         if !is_open {
             return BytesFed {
@@ -204,31 +215,45 @@ fn fitting(count: usize, allowed: u64) -> usize
 }
 
 // Prints that a piece of so many bytes more is refused. Only the contract speaks of session and length.
-fn refuse_piece(session: Session, length: usize, number: u8)
+fn refuse_piece<W: Write, E: Write>(
+    writer: &mut W,
+    errors: &mut E,
+    session: Session,
+    length: usize,
+    number: u8,
+)
     requires { piece_ruling session length ≡ Refused number }
 {
-    print_refusal(number);
+    print_refusal(writer, errors, number);
 }
 
 // Feeds what each read gives, until the input ends or one byte more comes than a session takes.
-fn receive_rest(start: Session, input: &mut [u8], output: &mut [u8], allowed: u64)
+fn receive_rest<R: Read, W: Write, E: Write>(
+    reader: &mut R,
+    writer: &mut W,
+    errors: &mut E,
+    start: Session,
+    input: &mut [u8],
+    output: &mut [u8],
+    allowed: u64,
+)
     requires { HasLeft start allowed × (enough ≤ length output.old) }
 {
     let mut session = start;
     let mut left = allowed;
     loop {
-        let got = read_some(input);
+        let got = read_some(reader, errors, input);
         let Got::Bytes(count) = got else {
             return;
         };
         let fed = fitting(count, left);
-        let behind = feed_bytes(session, &input[..fed], output);
+        let behind = feed_bytes(writer, errors, session, &input[..fed], output);
         session = behind.session;
         if !behind.is_open {
             return;
         }
         if fed < count {
-            refuse_piece(session, 1, 12);
+            refuse_piece(writer, errors, session, 1, 12);
             return;
         }
         left -= count as u64;
@@ -236,16 +261,28 @@ fn receive_rest(start: Session, input: &mut [u8], output: &mut [u8], allowed: u6
 }
 
 // Receives the stream, whose first bytes lie in the input buffer already: a session's bytes, and one more is refused.
-fn receive(start: Session, input: &mut [u8], output: &mut [u8], from: usize, filled: usize)
+fn receive<R: Read, W: Write, E: Write>(
+    reader: &mut R,
+    writer: &mut W,
+    errors: &mut E,
+    start: Session,
+    input: &mut [u8],
+    output: &mut [u8],
+    from: usize,
+    filled: usize,
+)
     requires from_le_filled { (from ≤ filled) × (filled ≤ length input.old) × (filled ≤ (limits_of start.setup).session) × (enough ≤ length output.old) }
     requires opens { Opens (take filled input.old) start from }
 {
-    let behind = feed_bytes(start, &input[from..filled], output);
+    let behind = feed_bytes(writer, errors, start, &input[from..filled], output);
     let session = behind.session;
     if !behind.is_open {
         return;
     }
     receive_rest(
+        reader,
+        writer,
+        errors,
         session,
         input,
         output,
@@ -254,13 +291,17 @@ fn receive(start: Session, input: &mut [u8], output: &mut [u8], from: usize, fil
 }
 
 // Reads until the first line is known: its 0x0A came, or 65 bytes, or the input ended.
-fn read_first_bytes(input: &mut [u8]) -> FirstBytes
+fn read_first_bytes<R: Read, E: Write>(
+    reader: &mut R,
+    errors: &mut E,
+    input: &mut [u8],
+) -> FirstBytes
     requires { 65 ≤ length input.old }
     ensures { result.filled ≤ length input.new }
 {
     let mut filled: usize = 0;
     while filled < 65 {
-        let got = read_some(&mut input[filled..]);
+        let got = read_some(reader, errors, &mut input[filled..]);
         let Got::Bytes(count) = got else {
             return FirstBytes {
                 filled: filled,
@@ -282,17 +323,23 @@ fn read_first_bytes(input: &mut [u8]) -> FirstBytes
 }
 
 // Prints that the first line of the input is refused. Only the contract speaks of the bytes.
-fn refuse_line(bytes: &[u8], number: u8)
+fn refuse_line<W: Write, E: Write>(writer: &mut W, errors: &mut E, bytes: &[u8], number: u8)
     requires { (line_read (first_line bytes.now)).answer ≡ Refused number }
 {
-    print_refusal(number);
+    print_refusal(writer, errors, number);
 }
 
 // Judges the first line and receives what comes behind it.
-fn run(input: &mut [u8], output: &mut [u8])
+fn run<R: Read, W: Write, E: Write>(
+    reader: &mut R,
+    writer: &mut W,
+    errors: &mut E,
+    input: &mut [u8],
+    output: &mut [u8],
+)
     requires { (65536 ≡ length input.old) × (131072 ≡ length output.old) }
 {
-    let first = read_first_bytes(input);
+    let first = read_first_bytes(reader, errors, input);
     let filled = first.filled;
     let last = first.last;
     if let Got::Failed = last {
@@ -303,13 +350,14 @@ fn run(input: &mut [u8], output: &mut [u8])
     let setup = line.setup;
     let answer = line.answer;
     if let Ruling::Refused(number) = answer {
-        refuse_line(&input[..filled], number);
+        refuse_line(writer, errors, &input[..filled], number);
         return;
     }
     if let Got::Bytes(count) = last {
         let opened = session::open(setup);
         let session = opened.session;
-        receive(session, input, output, least(end + 1, filled), filled);
+        let from = least(end + 1, filled);
+        receive(reader, writer, errors, session, input, output, from, filled);
     }
 }
 
@@ -320,8 +368,17 @@ fn line_room() -> [u8; 131072]
     [0; 131072]
 }
 
-fn main() {
-    let mut input = io::large_buffer();
+fn main(rt: HostRuntime) {
+    let mut reader = rt.stdin();
+    let mut writer = rt.stdout();
+    let mut errors = rt.stderr();
+    let mut input = console::large_buffer();
     let mut output = line_room();
-    run(&mut input, &mut output);
+    run(
+        &mut reader,
+        &mut writer,
+        &mut errors,
+        &mut input,
+        &mut output,
+    );
 }

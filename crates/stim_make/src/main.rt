@@ -10,10 +10,11 @@ ghost use Rattle.rehearsal.specs.RehearsalLine.{readings_in, values_in, rehearsa
 ghost use Rattle.rehearsal.specs.declared.Rehearsed.TheVariants.{Written};
 ghost use Rattle.stim_make.specs.MadeLines.{next_number, GotWithin, line_of, Keeps, datagram_of, datagrams_in, with_text, IsTaken, AreFed};
 
-use libc::{STDERR_FILENO, STDIN_FILENO, STDOUT_FILENO};
 use made_datagram::Made;
 use rehearsal::Rehearsed;
 use setup::{Ruling, Setup};
+use std::io;
+use std::io::{ErrorKind, Read, Write};
 
 // No datagram is longer.
 const ENOUGH: usize = 65;
@@ -61,20 +62,23 @@ struct FirstLine {
     last: Got,
 }
 
+// Says on standard error why a read failed.
+fn tell_failed<E: Write>(errors: &mut E, error: io::Error) {
+    let _ = writeln!(errors, "standard input: {error}");
+}
+
 // One read of standard input.
-fn read_some(buffer: &mut [u8]) -> Got
+fn read_some<R: Read, E: Write>(reader: &mut R, errors: &mut E, buffer: &mut [u8]) -> Got
     ensures { GotWithin result (length buffer.new) }
 {
-    let got = libc::read(STDIN_FILENO, buffer);
-    if got < 0 {
-        os::fail(b"standard input");
-        return Got::Failed;
+    match reader.read(buffer) {
+        Ok(0) => Got::End,
+        Ok(count) => Got::Bytes(count),
+        Err(error) => {
+            tell_failed(errors, error);
+            Got::Failed
+        }
     }
-    let count = io::count(got, buffer);
-    if count == 0 {
-        return Got::End;
-    }
-    Got::Bytes(count)
 }
 
 // A line that has no bytes yet.
@@ -119,73 +123,83 @@ fn keep(line: Line, more: &[u8]) -> Line
     }
 }
 
-// Says on standard error that a write failed or took nothing.
-fn tell_closed() {
-    io::write_all(STDERR_FILENO, b"standard output takes nothing more\n");
+// Says a text on standard error. Nobody is left to be told that this failed.
+fn tell<E: Write>(errors: &mut E, text: &[u8]) {
+    let _ = errors.write_all(text);
+}
+
+// Says on standard error that a write failed or took nothing. Where nobody reads standard output any more the program ends without a word.
+fn tell_closed<E: Write>(errors: &mut E, error: io::Error) {
+    if error.kind() != ErrorKind::BrokenPipe {
+        tell(errors, b"standard output takes nothing more\n");
+    }
 }
 
 // Says on standard error which line is turned down.
-fn tell_line(number: u64) {
-    io::write_all(STDERR_FILENO, b"line ");
-    io::print_decimal(STDERR_FILENO, number);
-    io::write_all(STDERR_FILENO, b": ");
+fn tell_line<E: Write>(errors: &mut E, number: u64) {
+    let _ = write!(errors, "line {number}: ");
 }
 
 // The number that refuses it.
-fn tell_refusal(number: u64, refusal: u8) {
-    tell_line(number);
-    io::write_all(STDERR_FILENO, b"refused ");
-    io::print_decimal(STDERR_FILENO, refusal as u64);
-    io::write_all(STDERR_FILENO, b"\n");
+fn tell_refusal<E: Write>(errors: &mut E, number: u64, refusal: u8) {
+    tell_line(errors, number);
+    let _ = writeln!(errors, "refused {refusal}");
 }
 
 // Says that the setup line is refused. Only the contract speaks of the line.
-fn refuse_setup(line: &[u8], refusal: u8)
+fn refuse_setup<E: Write>(errors: &mut E, line: &[u8], refusal: u8)
     requires { (line_read line.now).answer ≡ Refused refusal }
 {
-    tell_refusal(1, refusal);
+    tell_refusal(errors, 1, refusal);
 }
 
 // Says that the values of a line are refused by 15. Only the contract speaks of setup and line.
-fn refuse_values(setup: Setup, line: &[u8], number: u64, refusal: u8)
+fn refuse_values<E: Write>(errors: &mut E, setup: Setup, line: &[u8], number: u64, refusal: u8)
     requires { (rehearsal_of line.now ≡ Written) × (outside setup (readings_in line.now) (values_in line.now) ≡ true) × (refusal ≡ 15) }
 {
-    tell_refusal(number, refusal);
+    tell_refusal(errors, number, refusal);
 }
 
 // Says what a line has that is no rehearsal line. Only the contract speaks of the line.
-fn refuse_line(line: &[u8], number: u64, judged: Rehearsed)
+fn refuse_line<E: Write>(errors: &mut E, line: &[u8], number: u64, judged: Rehearsed)
     requires { (judged ≡ rehearsal_of line.now) × (judged ≡ Written → ⊥) }
 {
-    tell_line(number);
+    tell_line(errors, number);
     match judged {
-        Rehearsed::TooLong => {
-            io::write_all(STDERR_FILENO, b"longer than 512 bytes\n");
-        }
-        Rehearsed::OtherCount => {
-            io::write_all(STDERR_FILENO, b"neither 25 nor 39 fields\n");
-        }
-        Rehearsed::NoNumber => {
-            io::write_all(STDERR_FILENO, b"a field is no whole number\n");
-        }
+        Rehearsed::TooLong => tell(errors, b"longer than 512 bytes\n"),
+        Rehearsed::OtherCount => tell(errors, b"neither 25 nor 39 fields\n"),
+        Rehearsed::NoNumber => tell(errors, b"a field is no whole number\n"),
         Rehearsed::Written => {}
     }
 }
 
 // Writes out the datagrams of bytes behind a line's first ones, and tells whether standard output took them. Only the contract speaks of setup, line
 // and bytes.
-fn write_datagrams(setup: Setup, line: Line, bytes: &[u8], datagrams: &[u8]) -> bool
+fn write_datagrams<W: Write, E: Write>(
+    writer: &mut W,
+    errors: &mut E,
+    setup: Setup,
+    line: Line,
+    bytes: &[u8],
+    datagrams: &[u8],
+) -> bool
     requires { (ruling_on setup ≡ Accepted) × (datagrams.now ≡ datagrams_in setup (line_of line) bytes.now) }
 {
-    if io::write_all(STDOUT_FILENO, datagrams) {
-        return true;
+    if let Err(error) = writer.write_all(datagrams) {
+        tell_closed(errors, error);
+        return false;
     }
-    tell_closed();
-    false
+    true
 }
 
 // Puts the datagram of a rehearsal line at the front of the buffer: how many bytes it has, 0 where the values are refused.
-fn put_datagram(setup: Setup, line: &[u8], number: u64, output: &mut [u8]) -> usize
+fn put_datagram<E: Write>(
+    errors: &mut E,
+    setup: Setup,
+    line: &[u8],
+    number: u64,
+    output: &mut [u8],
+) -> usize
     requires { (ruling_on setup ≡ Accepted) × (rehearsal_of line.now ≡ Written) × (65 ≤ length output.old) }
     ensures fact_1 { result ≡ length (datagram_of setup line.now) }
     ensures fact_2 { output.new ≡ with_text (datagram_of setup line.now) output.old }
@@ -196,28 +210,40 @@ fn put_datagram(setup: Setup, line: &[u8], number: u64, output: &mut [u8]) -> us
     match made {
         Made::Datagram(count) => count,
         Made::Refused(refusal) => {
-            refuse_values(setup, line, number, refusal);
+            refuse_values(errors, setup, line, number, refusal);
             0
         }
     }
 }
 
 // The same of any line.
-fn make_line(setup: Setup, line: &[u8], number: u64, output: &mut [u8]) -> usize
+fn make_line<E: Write>(
+    errors: &mut E,
+    setup: Setup,
+    line: &[u8],
+    number: u64,
+    output: &mut [u8],
+) -> usize
     requires { (ruling_on setup ≡ Accepted) × (65 ≤ length output.old) }
     ensures fact_1 { result ≡ length (datagram_of setup line.now) }
     ensures fact_2 { output.new ≡ with_text (datagram_of setup line.now) output.old }
 {
     let judged = rehearsal::judge_line(line);
     if let Rehearsed::Written = judged {
-        return put_datagram(setup, line, number, output);
+        return put_datagram(errors, setup, line, number, output);
     }
-    refuse_line(line, number, judged);
+    refuse_line(errors, line, number, judged);
     0
 }
 
 // Takes the bytes of a line and the 0x0A behind them, which makes its datagram.
-fn take_line(setup: Setup, start: Line, bytes: &[u8], output: &mut [u8]) -> Taken
+fn take_line<E: Write>(
+    errors: &mut E,
+    setup: Setup,
+    start: Line,
+    bytes: &[u8],
+    output: &mut [u8],
+) -> Taken
     requires { (ruling_on setup ≡ Accepted) × (start.used ≤ 513) × (65 ≤ length output.old) }
     ensures { IsTaken setup start bytes.now output.old output.new result }
 {
@@ -232,7 +258,7 @@ fn take_line(setup: Setup, start: Line, bytes: &[u8], output: &mut [u8]) -> Take
     }
     let used = line.used;
     let kept = line.bytes;
-    let made = make_line(setup, &kept[..used], line.number, output);
+    let made = make_line(errors, setup, &kept[..used], line.number, output);
     let next = end + 1;
     Taken {
         taken: next,
@@ -242,7 +268,13 @@ fn take_line(setup: Setup, start: Line, bytes: &[u8], output: &mut [u8]) -> Take
 }
 
 // Takes bytes line by line, whose datagrams come one behind the other into the buffer, until all are taken or another datagram may find no room.
-fn gather(setup: Setup, start: Line, bytes: &[u8], output: &mut [u8]) -> Taken
+fn gather<E: Write>(
+    errors: &mut E,
+    setup: Setup,
+    start: Line,
+    bytes: &[u8],
+    output: &mut [u8],
+) -> Taken
     requires { (ruling_on setup ≡ Accepted) × (start.used ≤ 513) × (65 ≤ length output.old) }
     ensures { IsTaken setup start bytes.now output.old output.new result }
 {
@@ -250,7 +282,7 @@ fn gather(setup: Setup, start: Line, bytes: &[u8], output: &mut [u8]) -> Taken
     let mut at: usize = 0;
     let mut made: usize = 0;
     while at < bytes.len() && ENOUGH <= output.len() - made {
-        let step = take_line(setup, line, &bytes[at..], &mut output[made..]);
+        let step = take_line(errors, setup, line, &bytes[at..], &mut output[made..]);
         line = step.line;
         made += step.made;
         at += step.taken;
@@ -263,17 +295,31 @@ fn gather(setup: Setup, start: Line, bytes: &[u8], output: &mut [u8]) -> Taken
 }
 
 // Takes bytes and writes out their datagrams, as many at once as the buffer has room for.
-fn feed_bytes(setup: Setup, start: Line, bytes: &[u8], output: &mut [u8]) -> Fed
+fn feed_bytes<W: Write, E: Write>(
+    writer: &mut W,
+    errors: &mut E,
+    setup: Setup,
+    start: Line,
+    bytes: &[u8],
+    output: &mut [u8],
+) -> Fed
     requires { (ruling_on setup ≡ Accepted) × (start.used ≤ 513) × (65 ≤ length output.old) }
     ensures { AreFed start bytes.now result }
 {
     let mut line = start;
     let mut at: usize = 0;
     while at < bytes.len() {
-        let gathered = gather(setup, line, &bytes[at..], output);
+        let gathered = gather(errors, setup, line, &bytes[at..], output);
         let end = at + gathered.taken;
         let made = gathered.made;
-        let is_open = write_datagrams(setup, line, &bytes[at..end], &output[..made]);
+        let is_open = write_datagrams(
+            writer,
+            errors,
+            setup,
+            line,
+            &bytes[at..end],
+            &output[..made],
+        );
         line = gathered.line;
         if !is_open {
             return Fed {
@@ -290,30 +336,44 @@ fn feed_bytes(setup: Setup, start: Line, bytes: &[u8], output: &mut [u8]) -> Fed
 }
 
 // Makes the datagram of a last line without 0x0A, if it has a byte.
-fn finish(setup: Setup, line: Line, output: &mut [u8])
+fn finish<W: Write, E: Write>(
+    writer: &mut W,
+    errors: &mut E,
+    setup: Setup,
+    line: Line,
+    output: &mut [u8],
+)
     requires { (ruling_on setup ≡ Accepted) × (line.used ≤ 513) × (65 ≤ length output.old) }
 {
     if line.used == 0 {
         return;
     }
-    feed_bytes(setup, line, b"\n", output);
+    feed_bytes(writer, errors, setup, line, b"\n", output);
 }
 
 // Takes what each read gives, until the input ends.
-fn receive_rest(setup: Setup, start: Line, input: &mut [u8], output: &mut [u8])
+fn receive_rest<R: Read, W: Write, E: Write>(
+    reader: &mut R,
+    writer: &mut W,
+    errors: &mut E,
+    setup: Setup,
+    start: Line,
+    input: &mut [u8],
+    output: &mut [u8],
+)
     requires { (ruling_on setup ≡ Accepted) × (start.used ≤ 513) × (65 ≤ length output.old) }
 {
     let mut line = start;
     let mut left = READS;
     while 0 < left {
-        let got = read_some(input);
+        let got = read_some(reader, errors, input);
         let Got::Bytes(count) = got else {
             if let Got::End = got {
-                finish(setup, line, output);
+                finish(writer, errors, setup, line, output);
             }
             return;
         };
-        let fed = feed_bytes(setup, line, &input[..count], output);
+        let fed = feed_bytes(writer, errors, setup, line, &input[..count], output);
         line = fed.line;
         if !fed.is_open {
             return;
@@ -323,7 +383,10 @@ fn receive_rest(setup: Setup, start: Line, input: &mut [u8], output: &mut [u8])
 }
 
 // Takes the bytes that came with the setup line's end, and then the rest. Only the contract speaks of the setup line.
-fn receive(
+fn receive<R: Read, W: Write, E: Write>(
+    reader: &mut R,
+    writer: &mut W,
+    errors: &mut E,
     setup: Setup,
     line: &[u8],
     input: &mut [u8],
@@ -334,21 +397,28 @@ fn receive(
     requires line_value { ((line_read line.now).answer ≡ Accepted) × (setup ≡ (line_read line.now).setup) × (ruling_on setup ≡ Accepted) }
     requires from_value { (from ≡ line_end (take filled input.old) + 1) × (from ≤ filled) × (filled ≤ length input.old) × (65 ≤ length output.old) }
 {
-    let fed = feed_bytes(setup, begun(2), &input[from..filled], output);
+    let fed = feed_bytes(
+        writer,
+        errors,
+        setup,
+        begun(2),
+        &input[from..filled],
+        output,
+    );
     let line = fed.line;
     if !fed.is_open {
         return;
     }
-    receive_rest(setup, line, input, output);
+    receive_rest(reader, writer, errors, setup, line, input, output);
 }
 
 // Reads until the first line is known: its 0x0A came, or 65 bytes, or the input ended.
-fn read_first_line(input: &mut [u8]) -> FirstLine
+fn read_first_line<R: Read, E: Write>(reader: &mut R, errors: &mut E, input: &mut [u8]) -> FirstLine
     ensures { (result.from ≤ result.filled) × (result.filled ≤ length input.new) × (result.line.used ≤ 513) × (0 < result.filled → result.from ≡ line_end (take result.filled input.new) + 1) }
 {
     let mut line = begun(1);
     while line.used < 65 {
-        let got = read_some(input);
+        let got = read_some(reader, errors, input);
         let Got::Bytes(count) = got else {
             return FirstLine {
                 line: line,
@@ -378,10 +448,16 @@ fn read_first_line(input: &mut [u8]) -> FirstLine
 }
 
 // Judges the setup line and takes what comes behind it.
-fn run(input: &mut [u8], output: &mut [u8])
+fn run<R: Read, W: Write, E: Write>(
+    reader: &mut R,
+    writer: &mut W,
+    errors: &mut E,
+    input: &mut [u8],
+    output: &mut [u8],
+)
     requires { 65 ≤ length output.old }
 {
-    let first = read_first_line(input);
+    let first = read_first_line(reader, errors, input);
     let last = first.last;
     if let Got::Failed = last {
         return;
@@ -393,18 +469,37 @@ fn run(input: &mut [u8], output: &mut [u8])
     let setup = read.setup;
     let answer = read.answer;
     if let Ruling::Refused(refusal) = answer {
-        refuse_setup(&bytes[..used], refusal);
+        refuse_setup(errors, &bytes[..used], refusal);
         return;
     }
     let from = first.from;
     let filled = first.filled;
     if 0 < filled {
-        receive(setup, &bytes[..used], input, output, from, filled);
+        receive(
+            reader,
+            writer,
+            errors,
+            setup,
+            &bytes[..used],
+            input,
+            output,
+            from,
+            filled,
+        );
     }
 }
 
-fn main() {
-    let mut input = io::large_buffer();
-    let mut output = io::large_buffer();
-    run(&mut input, &mut output);
+fn main(rt: HostRuntime) {
+    let mut reader = rt.stdin();
+    let mut writer = rt.stdout();
+    let mut errors = rt.stderr();
+    let mut input = console::large_buffer();
+    let mut output = console::large_buffer();
+    run(
+        &mut reader,
+        &mut writer,
+        &mut errors,
+        &mut input,
+        &mut output,
+    );
 }

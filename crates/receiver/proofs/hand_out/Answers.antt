@@ -1,0 +1,58 @@
+-- `receiver::hand_out` meets its contract. Assumes nothing.
+use Prim.Native.Nat.{ℕ}
+use mathlib.Core.Path.{◌≡◌}
+use mathlib.Core.List.{[]}
+use Rattle.setup.specs.Sensor.{sensor_of}
+use Rattle.scan.specs.Scan.{finds}
+use Rattle.history.specs.History.{awaits_first, gap_next, advanced}
+use Rattle.session.specs.declared.Session.{Session}
+use Rattle.feeding.specs.declared.Answer.TheVariants.{Datagram as HandedOut}
+use Rattle.feeding.specs.declared.Datagram.{Datagram}
+use Rattle.feeding.specs.declared.Reply.{Reply}
+use Rattle.history.proofs.HistoryLaws.{advanced_next}
+use Rattle.feeding.specs.Feed.{datagram_with, history_after, tell}
+use Rattle.feeding.specs.CallParts.{contents_with, reply_after}
+use Rattle.feeding.proofs.CallParts.{contents_read}
+use Rattle.receiver.proofs.hand_out.Goals as goal
+
+-- a datagram's answer, of the session and the datagram in it
+handed :
+    {taken : ℕ} {s t : Session} {o p : Datagram} → s ≡ t → o ≡ p
+    → ◌≡◌ {A = Reply} (record { answer = HandedOut; taken = taken; session = s; datagram = o })
+    (record { answer = HandedOut; taken = taken; session = t; datagram = p })
+handed e f = rw (e, f)
+
+pub returns : goal.returns
+unfolding reply_after history_after tell
+returns c =
+    let d = c in
+    let h = d in
+    let k = h in
+    let g = k in
+    let f = g in
+    let s = c in
+    let a = s.args in
+    let reply = reply_after a.session a.taken (finds a.passed a.d.now []) in
+    let fields = f.fields_of-fields.result in
+    let gap : g.gap_before-gap.result ≡ gap_next a.sensor.rate a.session.history fields.counter = g.gap_before-gap.ensures in
+    let stepped :
+    h.advance-history.result ≡ advanced a.sensor.rate k.kept_groups-kept.result a.session.history f.readings-readings.result fields.statuses fields.counter =
+    h.advance-history.ensures in
+    let made :
+    d.datagram_of-datagram.result
+    ≡ datagram_with a.sensor g.gap_before-gap.result (contents_with f.readings-readings.result fields) h.advance-history.result =
+    d.datagram_of-datagram.ensures in
+    let moved :
+    h.advance-history.result ≡ history_after (sensor_of a.session.setup) (awaits_first a.session.history) a.session.history a.d.now =
+    rw (
+      ← s.requires.2,
+      stepped,
+      advanced_next a.sensor.rate _ a.session.history _ _ _ s.requires.0.datagrams,
+      k.kept_groups-kept.ensures,
+      f.fields_of-fields.ensures,
+      f.readings-readings.ensures,
+    ) in
+    let behind : c.session_behind-after.result ≡ reply.session = rw (c.session_behind-after.ensures, moved) in
+    let told : d.datagram_of-datagram.result ≡ reply.datagram =
+    rw (made, moved, gap, f.fields_of-fields.ensures, f.readings-readings.ensures, ← s.requires.2, contents_read a.sensor.row a.d.now) in
+    handed {taken = a.taken} behind told
