@@ -64,7 +64,8 @@ def declared():
         # the constructors of a type, several in a line
         for m in re.finditer(r"(?m)^ +((?:[a-z]\w* ){2,}[a-z]\w*) : [A-Z]\w*$", read(path)):
             for name in m[1].split():
-                found.setdefault(name, set()).add(path)
+                if is_code(name):
+                    CONSTRUCTORS.add(name)
         for m in re.finditer(r"(?m)^ *(?:abbrev )?(?:pub )?(?:unfoldable )?(?:pub )?([^\s(){}.;,@\"«»:=λ]+)(?= :\n|:$| :$)", read(path)):
             if not (own and "tie." in read(path)[m.end() : m.end() + 120].split("\n")[1] if "\n" in read(path)[m.end() : m.end() + 120] else False):
                 found.setdefault(m[1], set()).add(path)
@@ -110,6 +111,10 @@ def choice(new, olds, names):
     return min(sorted(olds), key=rank)
 
 
+# The constructors that are turned; they fall together with nothing, since a field's name stands behind a dot.
+CONSTRUCTORS = set()
+
+
 def plan(names):
     """The table of old and new names, and the lemmas in snake case already that get another in a file that has the definition too."""
     by_new = {}
@@ -119,7 +124,7 @@ def plan(names):
     for new in by_new:
         if new in names:
             by_new[new].add(new)
-    table, moved = {}, {}
+    table, moved = {it: snake(it) for it in CONSTRUCTORS}, {}
     for new, olds in by_new.items():
         keeper = choice(new, olds, names)
         for old in olds:

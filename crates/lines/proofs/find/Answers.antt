@@ -2,24 +2,16 @@
 use mathlib.Core.Path.{ap, ◌∙◌}
 use mathlib.Core.List.{List}
 use Prim.Native.Nat.{ℕ}
-use borrow.Author.Rules.{rules}
 use Rattle.scan.specs.Scan.{Verdict, first}
 use Rattle.search.specs.Search.{place_of}
 use Rattle.feeding.proofs.BySetup.{sensor_verdict}
 use Rattle.lines.specs.declared.LookedUp.{LookedUp}
-use Rattle.lines.proofs.find.Statement.{statement}
-use Rattle.lines.proofs.find.Tie as tie
+use Rattle.lines.proofs.find.Goals as goal
 
-find-requires : tie.Need-find-requires
-find-requires c κs = search rules
-
-returns : tie.Need-returns
+pub returns : goal.returns
 returns c =
-    let s = c.before.before.before in
+    let s = c in
     let u = s.args.known.setup in
     c.find.ensures
     ∙ ap (λ (v : List ℕ → Verdict). place_of (first v s.args.bytes.now))
     (sensor_verdict u s.requires.0 s.args.known.sensor (ap (λ (k : LookedUp). k.sensor) s.requires.1))
-
-pub find_spec : {M : Type 1} → statement M
-find_spec = tie.close (tie.spec find-requires returns)

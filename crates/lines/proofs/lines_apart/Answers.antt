@@ -1,0 +1,55 @@
+-- `lines::lines_apart` meets its contract: the lines in another buffer, and copied where they fit. Assumes nothing.
+use Prim.Native.Nat.{◌≤◌}
+use mathlib.Core.Path.{◌≡◌, sym}
+use native.Mathlib.Omega.{arith}
+use lib.ListN.{length, take}
+use lib.Seq.{length-take-le}
+use Rattle.whole_piece.proofs.LongestLines.{room_admitted}
+use Rattle.lines.proofs.Answered.{apart_within, apart_refused, apart_copied, apart_never}
+use Rattle.lines.proofs.lines_apart.Goals as goal
+use Rattle.lines.proofs.lines_apart.Goals.{In-Lines}
+
+-- the lines lie in the buffer in which they were made
+within_apart : (c : In-Lines) → c.in-Lines.used ≤ length c.all_lines-batch.new.buffer
+within_apart c = apart_within c.args.session c.args.piece.now c.all_lines-batch.ensures c.in-Lines.used c.in-Lines.is
+
+copied_length : (c : In-Lines) → length (take c.in-Lines.used c.all_lines-batch.new.buffer) ≡ c.in-Lines.used
+copied_length c = length-take-le c.in-Lines.used c.all_lines-batch.new.buffer (within_apart c)
+
+pub all_lines-batch-requires : goal.all_lines-batch-requires
+all_lines-batch-requires c =
+    let a = c.args in
+    let e = c.requires.fact_1 in
+    record { fact_1 = record { admitted = e; enough = room_admitted a.session (length a.piece.now) e }; fact_2 = c.requires.fact_2 }
+
+pub returns-then-buffer-used : goal.returns-then-buffer-used
+returns-then-buffer-used c =
+    let a = c.args in
+    let w =
+    apart_refused a.session a.piece.now c.all_lines-batch.ensures c.in-Lines.used c.in-Lines.is c.requires.fact_1 a.buffer.now
+    c.if-buffer-used.true c.refuse.ensures
+    in
+    record { fact_1 = w.0; fact_2 = w.1 }
+
+pub slice_bounds-apart-end : goal.slice_bounds-apart-end
+slice_bounds-apart-end c = within_apart (goal.at.slice_bounds-apart-end c).In-Lines
+
+pub slice_bounds-copy-end : goal.slice_bounds-copy-end
+slice_bounds-copy-end c = sym (copied_length (goal.at.slice_bounds-copy-end c).In-Lines)
+
+pub copy-requires : goal.copy-requires
+copy-requires c = omega (arith, copied_length (goal.at.copy-requires c).In-Lines, c.if-buffer-used.false)
+
+pub returns-else-buffer-used : goal.returns-else-buffer-used
+returns-else-buffer-used c =
+    let a = c.args in
+    let w =
+    apart_copied a.session a.piece.now c.all_lines-batch.ensures c.in-Lines.used c.in-Lines.is c.requires.fact_1 a.buffer.now
+    c.if-buffer-used.false c.copy.ensures.count c.copy.ensures.bytes
+    in
+    record { fact_1 = w.0; fact_2 = w.1 }
+
+pub returns-in-Refused : goal.returns-in-Refused
+returns-in-Refused c =
+    let a = c.args in
+    absurd (apart_never a.session a.piece.now c.all_lines-batch.ensures c.in-Refused.number c.in-Refused.is)
