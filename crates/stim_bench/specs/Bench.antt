@@ -1,5 +1,5 @@
 -- A helper of proofs, no rule of 01: what the contracts of the bench program cite.
-use Rattle.std.specs.Prelude.{ℕ, ◌+◌, ◌≤◌, ◌<◌, min, ◌≡◌, true, List, [], ◌++◌, length, take, drop}
+use Rattle.std.specs.Prelude.{ℕ, ◌+◌, ◌≤◌, ◌<◌, min, ◌≡◌, true, List, ◌++◌, length, take, drop}
 use Rattle.setup.specs.declared.Ruling.TheVariants.{Accepted}
 use Rattle.setup_line.specs.SetupLine.{line_read, line_end}
 use Rattle.search.specs.Search.{limits_of}
