@@ -7,8 +7,8 @@ use lib.Seq.{take-add, take-append-le}
 use Rattle.console.proofs.read_full.Goals as goal
 
 -- the first bytes of a buffer into whose rest ys was written: those that were there, and the first of ys
-take-put_mid_front : (a k n : ℕ) (xs ys : List ℕ) → a ≤ length xs → n ≤ length ys → take (a + n) (put_mid a k xs ys) ≡ take a xs ++ take n ys
-take-put_mid_front a k n xs ys within fits =
+take_put_mid_front : (a k n : ℕ) (xs ys : List ℕ) → a ≤ length xs → n ≤ length ys → take (a + n) (put_mid a k xs ys) ≡ take a xs ++ take n ys
+take_put_mid_front a k n xs ys within fits =
     let all = put_mid a k xs ys in
     let rest = post_of a k xs in
     take-add a n all
@@ -20,5 +20,5 @@ pub loop-done-preserved : goal.loop-done-preserved
 loop-done-preserved g c =
     let done = c.loop-done.done in
     let room = length c.loop-done.buffer - done in
-    let front = take-put_mid_front done room c.in-Ok.count c.loop-done.buffer c.read.new.buf c.loop-done.invariant.0 c.in-Ok.ensures.bound.0 in
+    let front = take_put_mid_front done room c.in-Ok.count c.loop-done.buffer c.read.new.buf c.loop-done.invariant.0 c.in-Ok.ensures.bound.0 in
     (search rules, subst (Consumes _ _) (sym front) (Consumes-trans _ _ _ _ _ c.loop-done.invariant.1 c.in-Ok.ensures.bytes.0))
