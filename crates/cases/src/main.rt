@@ -321,6 +321,6 @@ fn run_all<W: Write>(writer: &mut W, text: &[u8]) -> io::Result<()> {
 
 fn main(rt: HostRuntime) -> io::Result<()> {
     let mut buffer = console::large_buffer();
-    let count = console::read_full(&mut rt.stdin(), &mut buffer);
+    let count = console::read_full(&mut rt.stdin(), &mut buffer)?;
     run_all(&mut rt.stdout(), &buffer[..count])
 }

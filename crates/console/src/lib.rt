@@ -1,8 +1,9 @@
 #![tactic(auto)]
 // What the programs share of reading: over any reader, so that a contract can say which bytes came.
-ghost use Rattle.std.specs.Prelude.{◌≡◌, ◌≤◌, length, take};
-ghost use Rattle.std.specs.Io.KnownBytes.{Consumes};
+ghost use Rattle.std.specs.Prelude.{◌≡◌, ◌≤◌, ◌<◌, length, take, IfOk};
+ghost use Rattle.std.specs.Io.KnownBytes.{Consumes, IsAtEnd};
 
+use std::io;
 use std::io::Read;
 
 // 65,536 zeros, for a loop that moves much data.
@@ -12,21 +13,20 @@ pub fn large_buffer() -> [u8; 65536]
     [0; 65536]
 }
 
-// Reads until the buffer is full, the input ends or a read fails, and gives how many bytes it put at the front of the buffer. On an empty buffer
-// it makes no call. A call that a signal interrupts before it moves a byte counts as one that failed.
-pub fn read_full<R: Read>(reader: &mut R, buffer: &mut [u8]) -> usize
-    ensures bound { result ≤ length buffer.new }
-    ensures bytes { Consumes (R.remaining reader.old) (R.remaining reader.new) (take result buffer.new) }
+// Reads until the buffer is full or the input ends, and gives how many bytes it put at the front of the buffer: a short read isn't the end. The
+// first read that fails ends it. On an empty buffer it makes no call.
+pub fn read_full<R: Read>(reader: &mut R, buffer: &mut [u8]) -> io::Result<usize>
+    ensures bound { IfOk result (λ n. n ≤ length buffer.new) }
+    ensures bytes { IfOk result (λ n. Consumes (R.remaining reader.old) (R.remaining reader.new) (take n buffer.new)) }
+    ensures end { IfOk result (λ n. n < length buffer.new → IsAtEnd (R.remaining reader.new)) }
 {
     let mut done: usize = 0;
     while done < buffer.len() {
-        let Ok(count) = reader.read(&mut buffer[done..]) else {
-            break;
-        };
+        let count = reader.read(&mut buffer[done..])?;
         if count == 0 {
-            break;
+            return Ok(done);
         }
         done += count;
     }
-    done
+    Ok(done)
 }

@@ -277,7 +277,7 @@ fn room() -> [u8; 6144]
 // Reads a record and answers it; whether there was a whole one.
 fn next_record<R: Read, W: Write>(reader: &mut R, writer: &mut W, number: u64) -> io::Result<bool> {
     let mut head = [0u8; 3];
-    let begun = console::read_full(reader, &mut head);
+    let begun = console::read_full(reader, &mut head)?;
     let size = size_of(&head) as usize;
     let mut payload = room();
     if begun < 3 {
@@ -286,7 +286,7 @@ fn next_record<R: Read, W: Write>(reader: &mut R, writer: &mut W, number: u64) -
     if 6144 < size {
         return Ok(false);
     }
-    let count = console::read_full(reader, &mut payload[0..size]);
+    let count = console::read_full(reader, &mut payload[0..size])?;
     if count < size {
         return Ok(false);
     }
