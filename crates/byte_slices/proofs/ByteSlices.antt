@@ -1,14 +1,18 @@
--- Laws of the place of a byte, seen from one place and from the next. Assumes nothing.
-use mathlib.Core.Path.{◌≡◌, refl, ◌∙◌}
-use mathlib.Core.List.{List}
+-- Laws of copying, and of the place of a byte, seen from one place and from the next. Assumes nothing.
+use mathlib.Core.Path.{◌≡◌, refl, sym, ap, ◌∙◌}
+use mathlib.Core.List.{List, ◌++◌}
 use Prim.Native.Nat.{ℕ, ◌+◌, ◌≤◌, ◌<◌}
 use native.Mathlib.Numerals.{add-one}
 use native.Mathlib.Omega.{arith}
-use lib.ListN.{length, drop, get_or, drop_of_length-le}
-use lib.Seq.{drop-cons}
+use lib.ListN.{length, take, drop, get_or, drop_of_length-le}
+use lib.Seq.{drop-cons, take_all, take-length}
 use borrow.Author.Tests.{eq-eqb, ne_eqb}
 use lib.Dec.{eqb}
-use Rattle.byte_slices.specs.ByteSlices.{index_after, index_of}
+use Rattle.byte_slices.specs.ByteSlices.{copied, index_after, index_of}
+
+-- a source that is no longer than the target is copied whole
+pub copied_whole : (s b : List ℕ) → length s ≤ length b → copied s b ≡ take (length s) s ++ drop (length s) b
+copied_whole s b h = ap (λ (l : List ℕ). l ++ drop (length s) b) (take_all (length b) s h ∙ sym (take-length s))
 
 module _ (b : ℕ) (s : List ℕ) (i : ℕ) where
   -- at the end none is left

@@ -72,8 +72,8 @@ fn reading_double(reading: i32, shift: u32) -> f64
 
 // The same of a total.
 fn steps_double(steps: i64, shift: u32) -> f64
-    requires fact_1 { nat_abs steps ≤ 2 ^ 53 }
-    requires fact_2 { shift ≤ 31 }
+    requires steps_small { nat_abs steps ≤ 2 ^ 53 }
+    requires shift_small { shift ≤ 31 }
     ensures { result ≡ quotient steps shift }
 {
     (steps as f64) / power(shift)

@@ -71,8 +71,8 @@ fn put_behind(
     statuses: [u8; 3],
     totals: Totals,
 ) -> usize
-    requires fact_1 { outside ordinal.0 readings totals ≡ false }
-    requires fact_2 { used + length (shown_text shown ordinal.0 counter latency gap readings statuses totals) ≤ length buffer.old }
+    requires inside { outside ordinal.0 readings totals ≡ false }
+    requires room { used + length (shown_text shown ordinal.0 counter latency gap readings statuses totals) ≤ length buffer.old }
     ensures { Put buffer.old used (shown_text shown ordinal.0 counter latency gap readings statuses totals) buffer.new result }
 {
     let written = text_line::write_shown(
@@ -100,11 +100,11 @@ fn one_line(
     d: &[u8],
     buffer: &mut [u8],
 ) -> Progress
-    requires fact_1 { Ready known.setup progress (progress.at + (skipped + length d.now)) (length buffer.old) }
-    requires fact_2 { is_datagram known.setup d.now ≡ true }
-    requires fact_3 { known ≡ looked_up known.setup }
-    ensures fact_1 { result ≡ next_of known.setup progress skipped d.now }
-    ensures fact_2 { buffer.new ≡ sets buffer.old progress.used (next_line known.setup progress.history d.now) }
+    requires ready { Ready known.setup progress (progress.at + (skipped + length d.now)) (length buffer.old) }
+    requires whole { is_datagram known.setup d.now ≡ true }
+    requires of_setup { known ≡ looked_up known.setup }
+    ensures answer { result ≡ next_of known.setup progress skipped d.now }
+    ensures written { buffer.new ≡ sets buffer.old progress.used (next_line known.setup progress.history d.now) }
 {
     let sensor = known.sensor;
     let shown = known.shown;
@@ -163,8 +163,8 @@ fn find(known: LookedUp, bytes: &[u8]) -> Place
 
 // The lines of the piece from a place on.
 fn lines_from(known: LookedUp, start: Progress, piece: &[u8], buffer: &mut [u8]) -> Progress
-    requires fact_1 { Ready known.setup start (length piece.now) (length buffer.old) }
-    requires fact_2 { known ≡ looked_up known.setup }
+    requires ready { Ready known.setup start (length piece.now) (length buffer.old) }
+    requires of_setup { known ≡ looked_up known.setup }
     ensures { Finished known.setup start piece.now buffer.old buffer.new result }
 {
     let len = piece.len();
@@ -194,9 +194,9 @@ fn lines_of(
     used: usize,
     buffer: &mut [u8],
 ) -> Batch
-    requires fact_1 { Ready session.setup (start_of session at used) (length piece.now) (length buffer.old) }
-    requires fact_2 { session.fed + (length piece.now - at) ≤ (limits_of session.setup).session }
-    requires fact_3 { known ≡ looked_up session.setup }
+    requires ready { Ready session.setup (start_of session at used) (length piece.now) (length buffer.old) }
+    requires within { session.fed + (length piece.now - at) ≤ (limits_of session.setup).session }
+    requires of_setup { known ≡ looked_up session.setup }
     ensures { Answered session used (scan_at session.setup piece.now at) (length piece.now - at) buffer.old buffer.new result }
 {
     let setup = session.setup;
@@ -225,8 +225,8 @@ fn lines_of(
 
 // The line of a datagram that came back, at the front of the buffer.
 fn first_line(shown: Shown, ordinal: Datagrams, datagram: Datagram, buffer: &mut [u8]) -> usize
-    requires fact_1 { outside ordinal.0 (datagram.gyro ∷ datagram.accelerometer ∷ datagram.inclinometer ∷ []) datagram.totals ≡ false }
-    requires fact_2 { length (line_by shown ordinal.0 datagram) ≤ length buffer.old }
+    requires inside { outside ordinal.0 (datagram.gyro ∷ datagram.accelerometer ∷ datagram.inclinometer ∷ []) datagram.totals ≡ false }
+    requires room { length (line_by shown ordinal.0 datagram) ≤ length buffer.old }
     ensures { Put buffer.old 0 (line_by shown ordinal.0 datagram) buffer.new result }
 {
     let gyro = datagram.gyro;
@@ -252,8 +252,8 @@ fn first_line(shown: Shown, ordinal: Datagrams, datagram: Datagram, buffer: &mut
 
 // The lines of a piece behind bytes that are held.
 fn lines_behind(session: Session, known: LookedUp, piece: &[u8], buffer: &mut [u8]) -> Batch
-    requires fact_1 { Permitted session (length piece.now) (length buffer.old) }
-    requires fact_2 { known ≡ looked_up session.setup }
+    requires permitted { Permitted session (length piece.now) (length buffer.old) }
+    requires of_setup { known ≡ looked_up session.setup }
     ensures { Answered session 0 (found_in session piece.now) (length piece.now) buffer.old buffer.new result }
 {
     let shown = known.shown;
@@ -278,8 +278,8 @@ fn lines_behind(session: Session, known: LookedUp, piece: &[u8], buffer: &mut [u
 
 // The lines of a piece that nothing refuses.
 fn all_lines(session: Session, known: LookedUp, piece: &[u8], buffer: &mut [u8]) -> Batch
-    requires fact_1 { Permitted session (length piece.now) (length buffer.old) }
-    requires fact_2 { known ≡ looked_up session.setup }
+    requires permitted { Permitted session (length piece.now) (length buffer.old) }
+    requires of_setup { known ≡ looked_up session.setup }
     ensures { Answered session 0 (found_in session piece.now) (length piece.now) buffer.old buffer.new result }
 {
     let count = session.count;
@@ -314,10 +314,10 @@ fn room_for(length: usize) -> usize
 
 // A buffer that may be shorter than the lines of the piece: they are made apart from it, and copied to its front unless 14 refuses them.
 fn lines_apart(session: Session, known: LookedUp, piece: &[u8], buffer: &mut [u8]) -> Batch
-    requires fact_1 { piece_ruling session (length piece.now) ≡ Accepted }
-    requires fact_2 { known ≡ looked_up session.setup }
-    ensures fact_1 { result ≡ batch_of session piece.now (length buffer.old) }
-    ensures fact_2 { buffer.new ≡ batch_buffer session piece.now buffer.old }
+    requires accepted { piece_ruling session (length piece.now) ≡ Accepted }
+    requires of_setup { known ≡ looked_up session.setup }
+    ensures answer { result ≡ batch_of session piece.now (length buffer.old) }
+    ensures written { buffer.new ≡ batch_buffer session piece.now buffer.old }
 {
     let mut apart = [0u8; ENOUGH];
     let batch = all_lines(session, known, piece, &mut apart);
@@ -339,8 +339,8 @@ fn lines_apart(session: Session, known: LookedUp, piece: &[u8], buffer: &mut [u8
 
 // A piece fed to its end, and the line of each datagram that it completes; or 10, 11, 12 or 14 refuses it and writes nothing.
 pub fn receive_lines(session: Session, piece: &[u8], buffer: &mut [u8]) -> Batch
-    ensures fact_1 { result ≡ batch_of session piece.now (length buffer.old) }
-    ensures fact_2 { buffer.new ≡ batch_buffer session piece.now buffer.old }
+    ensures answer { result ≡ batch_of session piece.now (length buffer.old) }
+    ensures written { buffer.new ≡ batch_buffer session piece.now buffer.old }
 {
     let admission = admission::admit(session, piece.len());
     match admission {

@@ -313,8 +313,8 @@ fn write_by(
     readings: [[i32; 3]; 3],
     values: Values,
 ) -> Made
-    ensures fact_1 { result ≡ answer_by buffer.old identifier (layout_of row terminated) readings values }
-    ensures fact_2 { buffer.new ≡ buffer_of buffer.old identifier (layout_of row terminated) readings values }
+    ensures answer { result ≡ answer_by buffer.old identifier (layout_of row terminated) readings values }
+    ensures written { buffer.new ≡ buffer_of buffer.old identifier (layout_of row terminated) readings values }
 {
     if values_outside(row, readings, values) {
         return Made::Refused(15);
@@ -332,8 +332,8 @@ pub fn write_datagram(
     readings: [[i32; 3]; 3],
     values: Values,
 ) -> Made
-    ensures fact_1 { result ≡ made_answer buffer.old setup readings values }
-    ensures fact_2 { buffer.new ≡ made_buffer buffer.old setup readings values }
+    ensures answer { result ≡ made_answer buffer.old setup readings values }
+    ensures written { buffer.new ≡ made_buffer buffer.old setup readings values }
 {
     let described = setup::describe(setup);
     match described {

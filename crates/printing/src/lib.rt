@@ -144,8 +144,8 @@ fn fraction_length(places: u16) -> usize
 
 // Prints a rounded value with its sign; only 19 is left to refuse it.
 fn print_rounded(buffer: &mut [u8], minus: bool, rounded: Rounded, places: u16) -> Printed
-    ensures fact_1 { result ≡ room_answer buffer.old (text_of minus rounded.whole rounded.fraction places) }
-    ensures fact_2 { buffer.new ≡ room_buffer buffer.old (text_of minus rounded.whole rounded.fraction places) }
+    ensures answer { result ≡ room_answer buffer.old (text_of minus rounded.whole rounded.fraction places) }
+    ensures written { buffer.new ≡ room_buffer buffer.old (text_of minus rounded.whole rounded.fraction places) }
 {
     let count = digit_count(rounded.whole);
     if buffer.len() < minus_length(minus) + count + fraction_length(places) {
@@ -157,8 +157,8 @@ fn print_rounded(buffer: &mut [u8], minus: bool, rounded: Rounded, places: u16) 
 // Prints number / 2^shift with so many places at the front of a buffer and tells how many bytes it wrote: 17, then 18, then 19 refuse it, and nothing is
 // written then.
 pub fn print_value(buffer: &mut [u8], number: i64, shift: u16, places: u16) -> Printed
-    ensures fact_1 { result ≡ printed_answer buffer.old number shift places }
-    ensures fact_2 { buffer.new ≡ printed_buffer buffer.old number shift places }
+    ensures answer { result ≡ printed_answer buffer.old number shift places }
+    ensures written { buffer.new ≡ printed_buffer buffer.old number shift places }
 {
     let out_of_range = (9 < places) | (31 < shift);
     let beyond = !motion::fits_total(number);

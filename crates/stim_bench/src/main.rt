@@ -130,8 +130,8 @@ fn write_lines<W: Write, E: Write>(
 // Feeds a part that no number refuses: its lines come to the front of the buffer.
 fn feed_part(session: Session, part: &[u8], output: &mut [u8]) -> PartFed
     requires { Feedable session (length part.now) × (length part.now ≤ (limits_of session.setup).piece) × (enough ≤ length output.old) }
-    ensures fact_1 { result ≡ part_lines session part.now }
-    ensures fact_2 { output.new ≡ with_text (lines_in session part.now) output.old }
+    ensures answer { result ≡ part_lines session part.now }
+    ensures written { output.new ≡ with_text (lines_in session part.now) output.old }
 {
     let batch = lines::receive_lines(session, part, output);
     let answer = batch.answer;

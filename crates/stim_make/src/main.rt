@@ -201,8 +201,8 @@ fn put_datagram<E: Write>(
     output: &mut [u8],
 ) -> usize
     requires { (ruling_on setup ≡ Accepted) × (rehearsal_of line.now ≡ Written) × (65 ≤ length output.old) }
-    ensures fact_1 { result ≡ length (datagram_of setup line.now) }
-    ensures fact_2 { output.new ≡ with_text (datagram_of setup line.now) output.old }
+    ensures answer { result ≡ length (datagram_of setup line.now) }
+    ensures written { output.new ≡ with_text (datagram_of setup line.now) output.old }
 {
     let readings = rehearsal::readings_of(line);
     let values = rehearsal::values_of(line);
@@ -225,8 +225,8 @@ fn make_line<E: Write>(
     output: &mut [u8],
 ) -> usize
     requires { (ruling_on setup ≡ Accepted) × (65 ≤ length output.old) }
-    ensures fact_1 { result ≡ length (datagram_of setup line.now) }
-    ensures fact_2 { output.new ≡ with_text (datagram_of setup line.now) output.old }
+    ensures answer { result ≡ length (datagram_of setup line.now) }
+    ensures written { output.new ≡ with_text (datagram_of setup line.now) output.old }
 {
     let judged = rehearsal::judge_line(line);
     if let Rehearsed::Written = judged {

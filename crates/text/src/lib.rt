@@ -32,8 +32,8 @@ pub fn write_line(
     statuses: [u8; 3],
     totals: Totals,
 ) -> Written
-    ensures fact_1 { result ≡ line_answer buffer.old setup ordinal.0 counter latency gap readings statuses totals }
-    ensures fact_2 { buffer.new ≡ line_buffer buffer.old setup ordinal.0 counter latency gap readings statuses totals }
+    ensures answer { result ≡ line_answer buffer.old setup ordinal.0 counter latency gap readings statuses totals }
+    ensures written { buffer.new ≡ line_buffer buffer.old setup ordinal.0 counter latency gap readings statuses totals }
 {
     let described = setup::describe(setup);
     match described {

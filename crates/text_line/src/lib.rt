@@ -292,8 +292,8 @@ fn outside(ordinal: Datagrams, readings: [[i32; 3]; 3], totals: Totals) -> bool
 
 // A whole line copied into a buffer, unless the buffer is shorter.
 fn copy_line(buffer: &mut [u8], line: &[u8]) -> Written
-    ensures fact_1 { result ≡ room_answer buffer.old line.now }
-    ensures fact_2 { buffer.new ≡ room_buffer buffer.old line.now }
+    ensures answer { result ≡ room_answer buffer.old line.now }
+    ensures written { buffer.new ≡ room_buffer buffer.old line.now }
 {
     if buffer.len() < line.len() {
         return Written::Refused(14);
@@ -311,8 +311,8 @@ fn write_apart(
     totals: Totals,
 ) -> Written
     requires { length (shown_text shown heading.ordinal.0 heading.counter heading.latency heading.gap readings statuses totals) ≤ longest_line }
-    ensures fact_1 { result ≡ room_answer buffer.old (shown_text shown heading.ordinal.0 heading.counter heading.latency heading.gap readings statuses totals) }
-    ensures fact_2 { buffer.new ≡ room_buffer buffer.old (shown_text shown heading.ordinal.0 heading.counter heading.latency heading.gap readings statuses totals) }
+    ensures answer { result ≡ room_answer buffer.old (shown_text shown heading.ordinal.0 heading.counter heading.latency heading.gap readings statuses totals) }
+    ensures written { buffer.new ≡ room_buffer buffer.old (shown_text shown heading.ordinal.0 heading.counter heading.latency heading.gap readings statuses totals) }
 {
     let mut line: [u8; 307] = [0; 307];
     let n = put_line(&mut line, shown, heading, readings, statuses, totals);
@@ -338,8 +338,8 @@ pub fn write_shown(
     statuses: [u8; 3],
     totals: Totals,
 ) -> Written
-    ensures fact_1 { result ≡ shown_answer buffer.old shown ordinal.0 counter latency gap readings statuses totals }
-    ensures fact_2 { buffer.new ≡ shown_buffer buffer.old shown ordinal.0 counter latency gap readings statuses totals }
+    ensures answer { result ≡ shown_answer buffer.old shown ordinal.0 counter latency gap readings statuses totals }
+    ensures written { buffer.new ≡ shown_buffer buffer.old shown ordinal.0 counter latency gap readings statuses totals }
 {
     if outside(ordinal, readings, totals) {
         return Written::Refused(13);

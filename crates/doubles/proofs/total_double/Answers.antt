@@ -19,8 +19,8 @@ steps_double-requires c =
     let f : SFits w64 z = record { sfits = omega arith } in
     let told = passed w64 (within (2 ^ 53)) z f c.fits_total.ensures in
     record {
-      fact_1 = rw (to_z-of_z w64 z f) (within_true (2 ^ 53) z (sym told ∙ c.if-fits_total.true));
-      fact_2 = rw c.known_shift-k.ensures (shift_small c.args.shift);
+      steps_small = rw (to_z-of_z w64 z f) (within_true (2 ^ 53) z (sym told ∙ c.if-fits_total.true));
+      shift_small = rw c.known_shift-k.ensures (shift_small c.args.shift);
     }
 
 pub returns-then-fits_total : goal.returns-then-fits_total

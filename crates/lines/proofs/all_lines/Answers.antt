@@ -10,9 +10,9 @@ pub lines_of-requires : goal.lines_of-requires
 lines_of-requires c =
     let a = c.args in
     record {
-      fact_1 = ready_start a.session a.piece.now (length a.buffer.now) c.requires.fact_1;
-      fact_2 = omega (arith, (admitted a.session (length a.piece.now) c.requires.fact_1.admitted).session);
-      fact_3 = c.requires.fact_2;
+      ready = ready_start a.session a.piece.now (length a.buffer.now) c.requires.permitted;
+      within = omega (arith, (admitted a.session (length a.piece.now) c.requires.permitted.admitted).session);
+      of_setup = c.requires.of_setup;
     }
 
 pub returns-then-count-eq0 : goal.returns-then-count-eq0

@@ -66,10 +66,10 @@ found_long c =
 pub loop-going-init : goal.loop-going-init
 loop-going-init c =
     let a = c.args in
-    invariant_start a.known.setup a.start a.piece.now a.buffer.now c.requires.fact_1
+    invariant_start a.known.setup a.start a.piece.now a.buffer.now c.requires.ready
 
 pub find-requires : goal.find-requires
-find-requires c = (c.loop-going.invariant.ready.accepted, c.requires.fact_2)
+find-requires c = (c.loop-going.invariant.ready.accepted, c.requires.of_setup)
 
 pub overflow_add-end : goal.overflow_add-end
 overflow_add-end c = omega (arith, within (goal.at.overflow_add-end c).In-Complete, c.loop-going.invariant.ready.most)
@@ -88,12 +88,12 @@ one_line-going-requires c =
     let e = cut p l.going.at n c.in-Complete.size in
     let d = found p l.going.at n c.in-Complete.size in
     record {
-      fact_1 =
+      ready =
           subst (λ (v : List ℕ). Ready u l.going (l.going.at + (n + length v)) (length l.buffer)) (sym e)
           (ready_less u l.going (length p) (l.going.at + (n + length d)) (length l.buffer) (omega arith)
           (omega (arith, within k, found_long k)) l.invariant.ready);
-      fact_2 = ap (is_datagram u) e ∙ (complete_arm k).good;
-      fact_3 = c.requires.fact_2;
+      whole = ap (is_datagram u) e ∙ (complete_arm k).good;
+      of_setup = c.requires.of_setup;
     }
 
 pub loop-going-smaller : goal.loop-going-smaller
@@ -105,7 +105,7 @@ loop-going-smaller c =
     let u = c.args.known.setup in
     let n = c.in-Complete.skipped in
     let moved : c.one_line-going.result ≡ next_of u l.going n (found p l.going.at n c.in-Complete.size) =
-    c.one_line-going.ensures.fact_1 ∙ ap (next_of u l.going n) (cut p l.going.at n c.in-Complete.size) in
+    c.one_line-going.ensures.answer ∙ ap (next_of u l.going n) (cut p l.going.at n c.in-Complete.size) in
     omega (
       arith,
       ap (λ (x : Progress). x.at) moved,
@@ -126,9 +126,9 @@ loop-going-preserved c =
     let n = c.in-Complete.skipped in
     let d = found p l.going.at n c.in-Complete.size in
     let e = cut p l.going.at n c.in-Complete.size in
-    let moved : o.result ≡ next_of u l.going n d = o.ensures.fact_1 ∙ ap (next_of u l.going n) e in
+    let moved : o.result ≡ next_of u l.going n d = o.ensures.answer ∙ ap (next_of u l.going n) e in
     let written : List ℕ → List ℕ = λ v. sets l.buffer l.going.used (next_line u l.going.history v) in
-    subst (λ (t : List ℕ). Invariant u a.start p b o.result t) (sym (o.ensures.fact_2 ∙ ap written e))
+    subst (λ (t : List ℕ). Invariant u a.start p b o.result t) (sym (o.ensures.written ∙ ap written e))
     (subst (λ (x : Progress). Invariant u a.start p b x (written d)) (sym moved)
     (invariant_next u a.start p b l.going l.buffer l.invariant n c.in-Complete.size (complete_arm k)))
 

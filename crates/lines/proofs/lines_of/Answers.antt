@@ -15,15 +15,15 @@ finished :
 finished c =
     let a = c.args in
     subst (λ (u : Setup). Finished u (start_of a.session a.at a.used) a.piece.now a.buffer.now c.lines_from-end.new.buffer c.lines_from-end.result)
-    (ap (λ (k : LookedUp). k.setup) c.requires.fact_3) c.lines_from-end.ensures
+    (ap (λ (k : LookedUp). k.setup) c.requires.of_setup) c.lines_from-end.ensures
 
 pub lines_from-end-requires : goal.lines_from-end-requires
 lines_from-end-requires c =
     let a = c.args in
-    let of_setup : a.known.setup ≡ a.session.setup = ap (λ (k : LookedUp). k.setup) c.requires.fact_3 in
+    let of_setup : a.known.setup ≡ a.session.setup = ap (λ (k : LookedUp). k.setup) c.requires.of_setup in
     record {
-      fact_1 = subst (λ (u : Setup). Ready u (start_of a.session a.at a.used) (length a.piece.now) (length a.buffer.now)) (sym of_setup) c.requires.fact_1;
-      fact_2 = subst (λ (u : Setup). a.known ≡ looked_up u) (sym of_setup) c.requires.fact_3;
+      ready = subst (λ (u : Setup). Ready u (start_of a.session a.at a.used) (length a.piece.now) (length a.buffer.now)) (sym of_setup) c.requires.ready;
+      of_setup = subst (λ (u : Setup). a.known ≡ looked_up u) (sym of_setup) c.requires.of_setup;
     }
 
 pub slice_bounds-session_with-count : goal.slice_bounds-session_with-count
@@ -36,5 +36,5 @@ pub returns : goal.returns
 returns c =
     let a = c.args in
     let f = c.lines_from-end in
-    answered_finished a.session a.at a.used a.piece.now a.buffer.now f.new.buffer f.result c.session_with-after.result c.requires.fact_1.accepted
+    answered_finished a.session a.at a.used a.piece.now a.buffer.now f.new.buffer f.result c.session_with-after.result c.requires.ready.accepted
     (finished (goal.at.returns c).After-lines_from-end) c.session_with-after.ensures

@@ -28,19 +28,19 @@ use Rattle.lines.proofs.one_line.Goals as goal
 use Rattle.lines.proofs.one_line.Goals.{After-totals_of-totals}
 
 few : (c : After-totals_of-totals) → c.args.progress.history.datagrams.0 < 2 ^ 30
-few c = few_of c.args.known.setup c.requires.fact_1.accepted c.args.progress.history.datagrams.0 _ c.requires.fact_1.few
+few c = few_of c.args.known.setup c.requires.ready.accepted c.args.progress.history.datagrams.0 _ c.requires.ready.few
 
 short : (c : After-totals_of-totals) → length (next_line c.args.known.setup c.args.progress.history c.args.d.now) ≤ longest_line
-short c = line_short c.args.known.setup c.requires.fact_1.accepted c.args.progress.history c.args.d.now c.requires.fact_1.kept c.requires.fact_2 (few c)
+short c = line_short c.args.known.setup c.requires.ready.accepted c.args.progress.history c.args.d.now c.requires.ready.kept c.requires.whole (few c)
 
 -- what was looked up is the setup's: the contents of the datagram, and which groups keep totals
 inside : (c : After-totals_of-totals) → contents_of c.args.known.sensor.row c.args.d.now ≡ fields_of c.args.known.setup.identifier c.args.d.now
 inside c =
-    ap (λ (k : LookedUp). contents_of k.sensor.row c.args.d.now) c.requires.fact_3 ∙ sym (sensor_fields c.args.known.setup c.args.d.now c.requires.fact_1.accepted)
+    ap (λ (k : LookedUp). contents_of k.sensor.row c.args.d.now) c.requires.of_setup ∙ sym (sensor_fields c.args.known.setup c.args.d.now c.requires.ready.accepted)
 
 kept : (c : After-totals_of-totals) → c.args.known.shown.kept ≡ groups_kept c.args.known.setup
 unfolding shown_by
-kept c = ap (λ (k : LookedUp). k.shown.kept) c.requires.fact_3
+kept c = ap (λ (k : LookedUp). k.shown.kept) c.requires.of_setup
 
 read_counter : (c : After-totals_of-totals) → c.counter-counter.result ≡ (fields_of c.args.known.setup.identifier c.args.d.now).counter
 read_counter c = c.counter-counter.ensures ∙ ap (λ (x : Contents). x.counter) (inside c)
@@ -55,7 +55,7 @@ read_statuses : (c : After-totals_of-totals) → c.statuses-statuses.result ≡ 
 read_statuses c = c.statuses-statuses.ensures ∙ ap (λ (x : Contents). x.statuses) (inside c)
 
 -- the history behind the datagram, its count and its totals
-moved : (c : After-totals_of-totals) → c.advance-history.result ≡ next_history c.args.known.setup c.requires.fact_1.accepted c.args.progress.history c.args.d.now
+moved : (c : After-totals_of-totals) → c.advance-history.result ≡ next_history c.args.known.setup c.requires.ready.accepted c.args.progress.history c.args.d.now
 moved c =
     let a = c.args in
     let f = fields_of a.known.setup.identifier a.d.now in
@@ -64,10 +64,10 @@ moved c =
     ≡ advanced a.known.sensor.rate a.known.shown.kept a.progress.history c.readings-readings.result c.statuses-statuses.result c.counter-counter.result =
     c.advance-history.ensures in
     stepped
-    ∙ (λ i. advanced (c.requires.fact_3 i).sensor.rate (kept c i) a.progress.history (read_readings c i) (read_statuses c i) (read_counter c i))
+    ∙ (λ i. advanced (c.requires.of_setup i).sensor.rate (kept c i) a.progress.history (read_readings c i) (read_statuses c i) (read_counter c i))
     ∙ advanced_next (sensor_of a.known.setup).rate (groups_kept a.known.setup) a.progress.history _ _ _ (omega (arith, few c))
     ∙ ap (λ (n : ℕ). history_next n (groups_kept a.known.setup) (awaits_first a.progress.history) a.progress.history f.readings f.statuses f.counter)
-    (sensor_rate a.known.setup c.requires.fact_1.accepted)
+    (sensor_rate a.known.setup c.requires.ready.accepted)
 
 ordinal_is : (c : After-totals_of-totals) → c.advance-history.result.datagrams.0 ≡ suc c.args.progress.history.datagrams.0
 unfolding history_next
@@ -75,19 +75,19 @@ ordinal_is c = ap (λ (h : History). h.datagrams.0) (moved c) ∙ add-one c.args
 
 totals_are :
     (c : After-totals_of-totals)
-    → c.totals_of-totals.result ≡ totals_of (next_history c.args.known.setup c.requires.fact_1.accepted c.args.progress.history c.args.d.now).axes
+    → c.totals_of-totals.result ≡ totals_of (next_history c.args.known.setup c.requires.ready.accepted c.args.progress.history c.args.d.now).axes
 totals_are c =
     let told : c.totals_of-totals.result ≡ totals_of c.advance-history.result.axes = c.totals_of-totals.ensures in
     told ∙ ap (λ (h : History). totals_of h.axes) (moved c)
 
-gap_is : (c : After-totals_of-totals) → c.gap_before-gap.result ≡ gap_in c.args.known.setup c.requires.fact_1.accepted c.args.progress.history c.args.d.now
+gap_is : (c : After-totals_of-totals) → c.gap_before-gap.result ≡ gap_in c.args.known.setup c.requires.ready.accepted c.args.progress.history c.args.d.now
 gap_is c =
     let a = c.args in
     let h = a.progress.history in
     let told : c.gap_before-gap.result ≡ gap_next a.known.sensor.rate h c.counter-counter.result = c.gap_before-gap.ensures in
     told
-    ∙ (λ i. gap_next (c.requires.fact_3 i).sensor.rate h (read_counter c i))
-    ∙ accepted_gap a.known.setup c.requires.fact_1.accepted (awaits_first h) h.previous _
+    ∙ (λ i. gap_next (c.requires.of_setup i).sensor.rate h (read_counter c i))
+    ∙ accepted_gap a.known.setup c.requires.ready.accepted (awaits_first h) h.previous _
 
 -- what is written is the next line
 lined :
@@ -97,23 +97,23 @@ lined :
 lined c =
     let a = c.args in
     (λ i.
-    shown_text (c.requires.fact_3 i).shown (ordinal_is c i) (read_counter c i) (read_latency c i) (gap_is c i) (read_readings c i)
+    shown_text (c.requires.of_setup i).shown (ordinal_is c i) (read_counter c i) (read_latency c i) (gap_is c i) (read_readings c i)
     (read_statuses c i)
     (totals_are c i))
-    ∙ sym (next_line_lem a.known.setup c.requires.fact_1.accepted a.progress.history a.d.now)
+    ∙ sym (next_line_lem a.known.setup c.requires.ready.accepted a.progress.history a.d.now)
 
 pub put_behind-used-requires : goal.put_behind-used-requires
 put_behind-used-requires c =
     let a = c.args in
     let u = a.known.setup in
-    let R = c.requires.fact_1 in
+    let R = c.requires.ready in
     let k = (goal.at.put_behind-used-requires c).After-totals_of-totals in
-    let long : length a.d.now ≡ length_of u = datagram_length u a.d.now c.requires.fact_2 in
+    let long : length a.d.now ≡ length_of u = datagram_length u a.d.now c.requires.whole in
     record {
-      fact_1 =
+      inside =
           (λ i. outside (ordinal_is k i) (read_readings k i) (totals_are k i))
-          ∙ line_inside u R.accepted a.progress.history a.d.now R.kept c.requires.fact_2 (few k);
-      fact_2 = omega (arith, ap length (lined k), short k, R.roomy, long, (accepted_length u R.accepted).0);
+          ∙ line_inside u R.accepted a.progress.history a.d.now R.kept c.requires.whole (few k);
+      room = omega (arith, ap length (lined k), short k, R.roomy, long, (accepted_length u R.accepted).0);
     }
 
 pub returns : goal.returns
@@ -123,9 +123,9 @@ returns c =
     let w = c.put_behind-used.ensures in
     let k = (goal.at.returns c).After-totals_of-totals in
     let used = w.place ∙ ap (λ (n : ℕ). a.progress.used + n) (ap length (lined k)) in
-    let history = moved k ∙ sym (after_datagram a.known.setup c.requires.fact_1.accepted (awaits_first a.progress.history) a.progress.history a.d.now) in
+    let history = moved k ∙ sym (after_datagram a.known.setup c.requires.ready.accepted (awaits_first a.progress.history) a.progress.history a.d.now) in
     record {
-      fact_1 =
+      answer =
           λ i.
           record {
             history = history i;
@@ -133,5 +133,5 @@ returns c =
             at = a.progress.at + (a.skipped + length a.d.now);
             used = used i;
           };
-      fact_2 = w.bytes ∙ ap (sets a.buffer.now a.progress.used) (lined k);
+      written = w.bytes ∙ ap (sets a.buffer.now a.progress.used) (lined k);
     }

@@ -30,9 +30,9 @@ written :
     (Line c.in-Line.n ≡ Line (length line)) × (c.write_shown-written.new.buffer ≡ line ++ drop (length line) (part a.buffer.now a.used))
 written c =
     let a = c.args in
-    shown_written (part a.buffer.now a.used) a.shown a.ordinal.0 a.counter a.latency a.gap a.readings a.statuses a.totals c.requires.fact_1
-    (c.in-Line.ensures.fact_1, c.in-Line.ensures.fact_2)
-    (room a.buffer.now a.used c.requires.fact_2)
+    shown_written (part a.buffer.now a.used) a.shown a.ordinal.0 a.counter a.latency a.gap a.readings a.statuses a.totals c.requires.inside
+    (c.in-Line.ensures.answer, c.in-Line.ensures.written)
+    (room a.buffer.now a.used c.requires.room)
 
 told :
     (c : In-Line)
@@ -41,7 +41,7 @@ told :
 told c = line_length refl (written c).0
 
 pub overflow_add-result : goal.overflow_add-result
-overflow_add-result c = omega (arith, told (goal.at.overflow_add-result c).In-Line, c.requires.fact_2)
+overflow_add-result c = omega (arith, told (goal.at.overflow_add-result c).In-Line, c.requires.room)
 
 pub returns-in-Line : goal.returns-in-Line
 returns-in-Line c =
@@ -50,16 +50,16 @@ returns-in-Line c =
     let k = (goal.at.returns-in-Line c).In-Line in
     record {
       place = omega (arith, told k);
-      bytes = ap (put_mid used (length b - used) b) (written k).1 ∙ put_part b (line (goal.at.returns-in-Line c).Start) used c.requires.fact_2;
+      bytes = ap (put_mid used (length b - used) b) (written k).1 ∙ put_part b (line (goal.at.returns-in-Line c).Start) used c.requires.room;
     }
 
 pub returns-in-Refused : goal.returns-in-Refused
 returns-in-Refused c =
     let a = c.args in
     let w =
-    shown_written (part a.buffer.now a.used) a.shown a.ordinal.0 a.counter a.latency a.gap a.readings a.statuses a.totals c.requires.fact_1
-    (c.in-Refused.ensures.fact_1, c.in-Refused.ensures.fact_2)
-    (room a.buffer.now a.used c.requires.fact_2)
+    shown_written (part a.buffer.now a.used) a.shown a.ordinal.0 a.counter a.latency a.gap a.readings a.statuses a.totals c.requires.inside
+    (c.in-Refused.ensures.answer, c.in-Refused.ensures.written)
+    (room a.buffer.now a.used c.requires.room)
     in
     let x = w.0 in
     absurd (let z : ◌≡◌ {A = ℕ} 0 1 = cc in omega arith)

@@ -31,17 +31,17 @@ room_for-requires c = room_admitted c.args.session (length c.args.piece.now) (ac
 
 pub lines_apart-requires : goal.lines_apart-requires
 lines_apart-requires c =
-    record { fact_1 = accepted (goal.at.lines_apart-requires c).In-Admitted; fact_2 = c.looked_up-known.ensures }
+    record { accepted = accepted (goal.at.lines_apart-requires c).In-Admitted; of_setup = c.looked_up-known.ensures }
 
 pub all_lines-requires : goal.all_lines-requires
 all_lines-requires c =
     record {
-      fact_1 =
+      permitted =
           record {
             admitted = accepted (goal.at.all_lines-requires c).In-Admitted;
             enough = omega (arith, c.if-buffer-room_for.false, c.room_for.ensures);
           };
-      fact_2 = c.looked_up-known.ensures;
+      of_setup = c.looked_up-known.ensures;
     }
 
 pub returns-in-Refused : goal.returns-in-Refused
@@ -52,10 +52,10 @@ returns-in-Refused c =
     (refused a.session a.piece.now a.buffer.now
     (admission_number_lem a.session (length a.piece.now) (sym c.in-Refused.ensures)))
     in
-    record { fact_1 = w.0; fact_2 = w.1 }
+    record { answer = w.0; written = w.1 }
 
 pub returns-else-buffer-room_for : goal.returns-else-buffer-room_for
 returns-else-buffer-room_for c =
     let a = c.args in
     let w = answered_all a.session a.piece.now (accepted (goal.at.returns-else-buffer-room_for c).In-Admitted) a.buffer.now c.all_lines.ensures in
-    record { fact_1 = w.0; fact_2 = w.1 }
+    record { answer = w.0; written = w.1 }

@@ -41,7 +41,7 @@ pub returns-then-buffer-minus_length : goal.returns-then-buffer-minus_length
 returns-then-buffer-minus_length c =
     let s = (goal.at.returns-then-buffer-minus_length c).Start in
     let w = room_short s.args.buffer.now (text s) (omega (arith, long (goal.at.returns-then-buffer-minus_length c).After-fraction_length, c.if-buffer-minus_length.true)) in
-    record { fact_1 = w.0; fact_2 = w.1 }
+    record { answer = w.0; written = w.1 }
 
 pub put_text-requires : goal.put_text-requires
 put_text-requires c = (c.digit_count-count.ensures, omega (arith, long (goal.at.put_text-requires c).After-fraction_length, c.if-buffer-minus_length.false))
@@ -50,4 +50,4 @@ pub returns : goal.returns
 returns c =
     let s = (goal.at.returns c).Start in
     let w = room_put s.args.buffer.now (text s) (omega (arith, long (goal.at.returns c).After-fraction_length, c.if-buffer-minus_length.false)) c.put_text.ensures in
-    record { fact_1 = w.0; fact_2 = w.1 }
+    record { answer = w.0; written = w.1 }

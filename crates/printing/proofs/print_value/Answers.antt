@@ -17,7 +17,7 @@ pub returns-then-out_of_range : goal.returns-then-out_of_range
 returns-then-out_of_range c =
     let a = c.args in
     let w = places_refused a.buffer.now a.number a.shift a.places c.if-out_of_range.true in
-    record { fact_1 = w.0; fact_2 = w.1 }
+    record { answer = w.0; written = w.1 }
 
 -- 18's test of the number
 limit : (z : ℤ) {r : Bool} → SFits w64 z → r ≡ within greatest_total (to_z w64 (of_z w64 z)) → not r ≡ beyond z
@@ -27,7 +27,7 @@ pub returns-then-beyond : goal.returns-then-beyond
 returns-then-beyond c =
     let a = c.args in
     let w = number_refused a.buffer.now a.number a.shift a.places c.if-out_of_range.false (sym (limit a.number c.ranges.number c.fits_total-beyond.ensures) ∙ ap not c.if-beyond.true) in
-    record { fact_1 = w.0; fact_2 = w.1 }
+    record { answer = w.0; written = w.1 }
 
 pub round_size-rounded-requires : goal.round_size-rounded-requires
 round_size-rounded-requires c =
@@ -40,8 +40,8 @@ returns c =
     let a = c.args in
     let e = rw (passed w64 nat_abs a.number c.ranges.number c.magnitude.ensures) at c.round_size-rounded.ensures in
     let p = c.print_rounded.ensures in
-    let f1 = rw (to_z-of_z w64 a.number c.ranges.number) at p.fact_1 in
-    let f2 = rw (to_z-of_z w64 a.number c.ranges.number) at p.fact_2 in
+    let f1 = rw (to_z-of_z w64 a.number c.ranges.number) at p.answer in
+    let f2 = rw (to_z-of_z w64 a.number c.ranges.number) at p.written in
     let w = value_written a.number a.shift a.places a.buffer.now c.if-out_of_range.false (sym (limit a.number c.ranges.number c.fits_total-beyond.ensures) ∙ ap not c.if-beyond.false) _
     (value_parts a.number a.shift a.places e.0 e.1) (f1, f2) in
-    record { fact_1 = w.0; fact_2 = w.1 }
+    record { answer = w.0; written = w.1 }

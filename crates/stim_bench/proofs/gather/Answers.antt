@@ -23,7 +23,7 @@ loop-taken-preserved c =
     let e = c.part_end-end.ensures in
     let f = c.feed_part-fed in
     gathering_more c.args.start c.args.bytes.now c.args.output.now c.requires.0 c.loop-taken.invariant
-    (omega (arith, e, c.loop-taken-test.true)) (omega (arith, e, c.loop-taken.invariant.front.within)) f.ensures.fact_1 f.ensures.fact_2 f.auto.output
+    (omega (arith, e, c.loop-taken-test.true)) (omega (arith, e, c.loop-taken.invariant.front.within)) f.ensures.answer f.ensures.written f.auto.output
 
 pub returns-else-output-used-ge-ENOUGH : goal.returns-else-output-used-ge-ENOUGH
 returns-else-output-used-ge-ENOUGH c =

@@ -6,4 +6,4 @@ use Rattle.stim_make.proofs.make_line.Goals as goal
 pub returns : goal.returns
 returns g c =
     let none = made_none c.args.setup c.args.line.now (λ e. c.in_default.not-Written (c.judge_line-judged.ensures ∙ e)) in
-    rw none (record { fact_1 = refl; fact_2 = refl })
+    rw none (record { answer = refl; written = refl })

@@ -25,4 +25,4 @@ returns g c =
     let s = c in
     let e = end_by _ c.line_end-end.ensures in
     let k = c.keep-line.ensures in
-    taken_line s.args.setup s.args.start s.args.bytes.now s.args.output.now e.0 k.0 k.1 e.1 c.if-end-bytes.false c.make_line-made.ensures.fact_1 c.make_line-made.ensures.fact_2 c.begun.ensures.0 (c.begun.ensures.1 ∙ c.next_number.ensures)
+    taken_line s.args.setup s.args.start s.args.bytes.now s.args.output.now e.0 k.0 k.1 e.1 c.if-end-bytes.false c.make_line-made.ensures.answer c.make_line-made.ensures.written c.begun.ensures.0 (c.begun.ensures.1 ∙ c.next_number.ensures)

@@ -12,12 +12,12 @@ returns-in-Accepted c =
     let shows : c.shown_of-shown.result ≡ shown_by a.setup =
     c.shown_of-shown.ensures ∙ ap (λ (x : Sensor). shown_of x.row x.units) p.1 ∙ sensor_shown a.setup p.0 in
     let w = line_written_lem a.buffer.now a.setup a.ordinal.0 a.counter a.latency a.gap a.readings a.statuses a.totals p.0 shows
-    (c.write_shown.ensures.fact_1, c.write_shown.ensures.fact_2) in
-    record { fact_1 = w.0; fact_2 = w.1 }
+    (c.write_shown.ensures.answer, c.write_shown.ensures.written) in
+    record { answer = w.0; written = w.1 }
 
 pub returns-in-Refused : goal.returns-in-Refused
 returns-in-Refused c =
     let a = c.args in
     let w = setup_refused a.buffer.now a.setup a.ordinal.0 a.counter a.latency a.gap a.readings a.statuses a.totals
     (described_refused a.setup (sym c.in-Refused.ensures)) in
-    record { fact_1 = w.0; fact_2 = w.1 }
+    record { answer = w.0; written = w.1 }

@@ -9,8 +9,8 @@ slice_bounds-copy_line-end c =
     let p = c.put_line-n in
     sym (length-take-le p.result p.new.buffer (omega (arith, p.ensures.place, p.auto.buffer, c.requires)))
 
-pub returns-clause-fact_1 : goal.returns-clause-fact_1
-returns-clause-fact_1 c = rw (put_taken c.put_line-n.ensures c.requires) at c.copy_line.ensures.fact_1
+pub returns-clause-answer : goal.returns-clause-answer
+returns-clause-answer c = rw (put_taken c.put_line-n.ensures c.requires) at c.copy_line.ensures.answer
 
-pub returns-clause-fact_2 : goal.returns-clause-fact_2
-returns-clause-fact_2 c = rw (put_taken c.put_line-n.ensures c.requires) at c.copy_line.ensures.fact_2
+pub returns-clause-written : goal.returns-clause-written
+returns-clause-written c = rw (put_taken c.put_line-n.ensures c.requires) at c.copy_line.ensures.written

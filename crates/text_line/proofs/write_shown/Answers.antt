@@ -50,7 +50,7 @@ pub returns-then-outside : goal.returns-then-outside
 returns-then-outside c =
     let a = c.args in
     let w = values_refused a.buffer.now a.shown a.ordinal.0 a.counter a.latency a.gap a.readings a.statuses a.totals (sym c.outside.ensures ∙ c.if-outside.true) in
-    record { fact_1 = w.0; fact_2 = w.1 }
+    record { answer = w.0; written = w.1 }
 
 pub write_apart-requires : goal.write_apart-requires
 write_apart-requires c = short (goal.at.write_apart-requires c).Else-outside
@@ -59,8 +59,8 @@ pub returns-then-buffer-longest_line : goal.returns-then-buffer-longest_line
 returns-then-buffer-longest_line c =
     let a = c.args in
     let w = apart_written a.buffer.now a.shown a.ordinal.0 a.counter a.latency a.gap a.readings a.statuses a.totals
-    (inside_limits (goal.at.returns-then-buffer-longest_line c).Else-outside) (c.write_apart.ensures.fact_1, c.write_apart.ensures.fact_2) in
-    record { fact_1 = w.0; fact_2 = w.1 }
+    (inside_limits (goal.at.returns-then-buffer-longest_line c).Else-outside) (c.write_apart.ensures.answer, c.write_apart.ensures.written) in
+    record { answer = w.0; written = w.1 }
 
 pub put_line-requires : goal.put_line-requires
 put_line-requires c = omega (arith, short (goal.at.put_line-requires c).Else-outside, c.longest_line.ensures, c.if-buffer-longest_line.false)
@@ -70,4 +70,4 @@ returns c =
     let a = c.args in
     let w = put_written a.buffer.now a.shown a.ordinal.0 a.counter a.latency a.gap a.readings a.statuses a.totals (inside_limits (goal.at.returns c).Else-outside)
     (omega (arith, short (goal.at.returns c).Else-outside, c.longest_line.ensures, c.if-buffer-longest_line.false)) c.put_line.ensures in
-    record { fact_1 = w.0; fact_2 = w.1 }
+    record { answer = w.0; written = w.1 }
