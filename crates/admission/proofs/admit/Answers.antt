@@ -7,12 +7,10 @@ use Rattle.admission.proofs.admit.Goals as goal
 
 pub admit_by-requires : goal.admit_by-requires
 admit_by-requires c =
-    let d = c in
-    described_accepted d.args.session.setup (sym c.in-Accepted.ensures)
+    described_accepted c.args.session.setup (sym c.in-Accepted.ensures)
 
 pub returns-in-Refused : goal.returns-in-Refused
 unfolding admission_of piece_ruling
 returns-in-Refused c =
-    let d = c in
-    let s = d.args.session in
+    let s = c.args.session in
     rw (refused_unsound s (described_refused s.setup (sym c.in-Refused.ensures)))

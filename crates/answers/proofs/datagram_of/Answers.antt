@@ -13,19 +13,14 @@ three c = search rules
 pub returns : goal.returns
 unfolding datagram_with
 returns c =
-    let m = c in
-    let s = m in
-    let v = s in
-    let j = v in
-    let start = j in
     rw (
-      j.flagged_channels.ensures,
-      j.flagged_channels-2.ensures,
-      j.flagged_channels-3.ensures,
-      j.judgements_of-judgements.ensures,
-      v.group_values-values.ensures,
-      s.totals_of-totals.ensures,
-      s.total_doubles-doubles.ensures,
-      m.marks_of-doubtful.ensures,
-      flagged_three start.args.fields.statuses (three (goal.at.returns c).Start),
+      c.flagged_channels.ensures,
+      c.flagged_channels-2.ensures,
+      c.flagged_channels-3.ensures,
+      c.judgements_of-judgements.ensures,
+      c.group_values-values.ensures,
+      c.totals_of-totals.ensures,
+      c.total_doubles-doubles.ensures,
+      c.marks_of-doubtful.ensures,
+      flagged_three c.args.fields.statuses (three (goal.at.returns c).Start),
     )

@@ -5,5 +5,4 @@ use Rattle.doubles.proofs.group_values.Goals as goal
 pub returns : goal.returns
 unfolding group_values
 returns c =
-    let o = c in
-    rw (o.values_of.ensures, o.values_of-2.ensures, c.values_of-3.ensures)
+    rw (c.values_of.ensures, c.values_of-2.ensures, c.values_of-3.ensures)

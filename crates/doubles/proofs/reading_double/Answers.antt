@@ -8,7 +8,6 @@ use Rattle.doubles.proofs.reading_double.Goals as goal
 
 pub returns : goal.returns
 returns c =
-    let s = c in
-    let n = s.args.reading in
-    rw (to_z-of_z w32 n s.ranges.reading, c.power.ensures)
-    (computed n s.args.shift (omega (arith, abs_of_sfits w32 n s.ranges.reading)) s.requires)
+    let n = c.args.reading in
+    rw (to_z-of_z w32 n c.ranges.reading, c.power.ensures)
+    (computed n c.args.shift (omega (arith, abs_of_sfits w32 n c.ranges.reading)) c.requires)

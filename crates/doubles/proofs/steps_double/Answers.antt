@@ -6,5 +6,4 @@ use Rattle.doubles.proofs.steps_double.Goals as goal
 
 pub returns : goal.returns
 returns c =
-    let s = c in
-    rw (to_z-of_z w64 s.args.steps s.ranges.steps, c.power.ensures) (computed s.args.steps s.args.shift s.requires.steps_small s.requires.shift_small)
+    rw (to_z-of_z w64 c.args.steps c.ranges.steps, c.power.ensures) (computed c.args.steps c.args.shift c.requires.steps_small c.requires.shift_small)

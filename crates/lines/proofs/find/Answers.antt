@@ -10,8 +10,7 @@ use Rattle.lines.proofs.find.Goals as goal
 
 pub returns : goal.returns
 returns c =
-    let s = c in
-    let u = s.args.known.setup in
+    let u = c.args.known.setup in
     c.find.ensures
-    ∙ ap (λ (v : List ℕ → Verdict). place_of (first v s.args.bytes.now))
-    (sensor_verdict u s.requires.0 s.args.known.sensor (ap (λ (k : LookedUp). k.sensor) s.requires.1))
+    ∙ ap (λ (v : List ℕ → Verdict). place_of (first v c.args.bytes.now))
+    (sensor_verdict u c.requires.0 c.args.known.sensor (ap (λ (k : LookedUp). k.sensor) c.requires.1))

@@ -7,7 +7,6 @@ use Rattle.lines.proofs.looked_up.Goals as goal
 
 pub returns : goal.returns
 returns c =
-    let s = c in
-    let shown : c.shown_of-shown.result ≡ shown_by s.args.setup =
-    c.shown_of-shown.ensures ∙ ap (λ (x : Sensor). shown_of x.row x.units) s.requires.1 ∙ sensor_shown s.args.setup s.requires.0 in
-    λ i. record { setup = s.args.setup; sensor = s.requires.1 i; shown = shown i }
+    let shown : c.shown_of-shown.result ≡ shown_by c.args.setup =
+    c.shown_of-shown.ensures ∙ ap (λ (x : Sensor). shown_of x.row x.units) c.requires.1 ∙ sensor_shown c.args.setup c.requires.0 in
+    λ i. record { setup = c.args.setup; sensor = c.requires.1 i; shown = shown i }

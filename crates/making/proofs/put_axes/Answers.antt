@@ -29,7 +29,7 @@ pub returns-then-not-carried : goal.returns-then-not-carried
 returns-then-not-carried c = let a = c.args in axes_none a.width a.row a.status c.if-not-carried.true
 
 pub put_value-second-requires : goal.put_value-second-requires
-put_value-second-requires c = let s = c in (omega arith, omega arith, omega (arith, room (goal.at.put_value-second-requires c).Else-not-carried))
+put_value-second-requires c = (omega arith, omega arith, omega (arith, room (goal.at.put_value-second-requires c).Else-not-carried))
 
 pub put_value-third-requires : goal.put_value-third-requires
 put_value-third-requires c = let s = c in

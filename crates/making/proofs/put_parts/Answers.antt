@@ -97,7 +97,6 @@ voltage_put :
     → Put c.put_temperatures-aux.new.buffer c.put_temperatures-aux.result (voltage c.args.identifier c.args.row c.args.readings c.args.values) c.put_aux-counter.new.buffer c.put_aux-counter.result
 voltage_put c =
     let v = c.args.values in
-    let t = c.struct_told-1.given in
     let value : SFits w32 v.aux = record { sfits = omega arith } in
     let status : SFits w32 v.aux_status = record { sfits = omega arith } in
     put_passed (λ (z : ℤ). aux_bytes c.args.row.aux z v.aux_status) v.aux value
@@ -108,7 +107,6 @@ counter_put :
     → Put c.put_aux-counter.new.buffer c.put_aux-counter.result (counter c.args.identifier c.args.row c.args.readings c.args.values) c.put_value-latency.new.buffer c.put_value-latency.result
 counter_put c =
     let v = c.args.values in
-    let t = c.struct_told-3-1.given in
     let number : SFits w32 v.counter = record { sfits = omega arith } in
     put_passed (value_bytes 1) v.counter number c.put_value-latency.ensures
 
@@ -131,7 +129,6 @@ put_aux-counter-requires c =
     let r = c.args.row in
     let v = c.args.values in
     let at = c.put_temperatures-aux.result in
-    let t = c.struct_told-1.given in
     let value : SFits w32 v.aux = record { sfits = omega arith } in
     let status : SFits w32 v.aux_status = record { sfits = omega arith } in
     let first = identifier_put (goal.at.put_aux-counter-requires c).After-put_value-groups in
@@ -157,7 +154,6 @@ put_value-requires c =
 pub returns : goal.returns
 returns c =
     let v = c.args.values in
-    let t = c.struct_told-4-1.given in
     let late : SFits w32 v.latency = record { sfits = omega arith } in
     let first = identifier_put (goal.at.returns c).After-put_value-groups in
     let fourth = voltage_put (goal.at.returns c).After-put_aux-counter in

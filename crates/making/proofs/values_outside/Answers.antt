@@ -12,7 +12,6 @@ use Rattle.making.proofs.values_outside.Goals as goal
 pub returns : goal.returns
 returns c = let a = c.args in
     let v = a.values in
-    let t = c.struct_told-1.given in
     let value : SFits w32 v.aux = record { sfits = omega arith } in
     let status : SFits w32 v.aux_status = record { sfits = omega arith } in
     let number : SFits w32 v.counter = record { sfits = omega arith } in

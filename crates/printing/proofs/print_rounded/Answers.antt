@@ -34,8 +34,7 @@ overflow_add-minus_length c = omega (arith, minus_at_most c.args.minus, c.minus_
 
 pub overflow_add-minus_length-2 : goal.overflow_add-minus_length-2
 overflow_add-minus_length-2 c =
-    let s = c in
-    omega (arith, minus_at_most s.args.minus, c.minus_length.ensures, few (goal.at.overflow_add-minus_length-2 c).After-digit_count-count, c.fraction_length.ensures, behind_length s.args.places 0, behind_at_most s.args.places 0)
+    omega (arith, minus_at_most c.args.minus, c.minus_length.ensures, few (goal.at.overflow_add-minus_length-2 c).After-digit_count-count, c.fraction_length.ensures, behind_length c.args.places 0, behind_at_most c.args.places 0)
 
 pub returns-then-buffer-minus_length : goal.returns-then-buffer-minus_length
 returns-then-buffer-minus_length c =

@@ -25,34 +25,28 @@ handed e f = rw (e, f)
 pub returns : goal.returns
 unfolding reply_after history_after tell
 returns c =
-    let d = c in
-    let h = d in
-    let k = h in
-    let g = k in
-    let f = g in
-    let s = c in
-    let a = s.args in
+    let a = c.args in
     let reply = reply_after a.session a.taken (finds a.passed a.d.now []) in
-    let fields = f.fields_of-fields.result in
-    let gap : g.gap_before-gap.result ≡ gap_next a.sensor.rate a.session.history fields.counter = g.gap_before-gap.ensures in
+    let fields = c.fields_of-fields.result in
+    let gap : c.gap_before-gap.result ≡ gap_next a.sensor.rate a.session.history fields.counter = c.gap_before-gap.ensures in
     let stepped :
-    h.advance-history.result ≡ advanced a.sensor.rate k.kept_groups-kept.result a.session.history f.readings-readings.result fields.statuses fields.counter =
-    h.advance-history.ensures in
+    c.advance-history.result ≡ advanced a.sensor.rate c.kept_groups-kept.result a.session.history c.readings-readings.result fields.statuses fields.counter =
+    c.advance-history.ensures in
     let made :
-    d.datagram_of-datagram.result
-    ≡ datagram_with a.sensor g.gap_before-gap.result (contents_with f.readings-readings.result fields) h.advance-history.result =
-    d.datagram_of-datagram.ensures in
+    c.datagram_of-datagram.result
+    ≡ datagram_with a.sensor c.gap_before-gap.result (contents_with c.readings-readings.result fields) c.advance-history.result =
+    c.datagram_of-datagram.ensures in
     let moved :
-    h.advance-history.result ≡ history_after (sensor_of a.session.setup) (awaits_first a.session.history) a.session.history a.d.now =
+    c.advance-history.result ≡ history_after (sensor_of a.session.setup) (awaits_first a.session.history) a.session.history a.d.now =
     rw (
-      ← s.requires.2,
+      ← c.requires.2,
       stepped,
-      advanced_next a.sensor.rate _ a.session.history _ _ _ s.requires.0.datagrams,
-      k.kept_groups-kept.ensures,
-      f.fields_of-fields.ensures,
-      f.readings-readings.ensures,
+      advanced_next a.sensor.rate _ a.session.history _ _ _ c.requires.0.datagrams,
+      c.kept_groups-kept.ensures,
+      c.fields_of-fields.ensures,
+      c.readings-readings.ensures,
     ) in
     let behind : c.session_behind-after.result ≡ reply.session = rw (c.session_behind-after.ensures, moved) in
-    let told : d.datagram_of-datagram.result ≡ reply.datagram =
-    rw (made, moved, gap, f.fields_of-fields.ensures, f.readings-readings.ensures, ← s.requires.2, contents_read a.sensor.row a.d.now) in
+    let told : c.datagram_of-datagram.result ≡ reply.datagram =
+    rw (made, moved, gap, c.fields_of-fields.ensures, c.readings-readings.ensures, ← c.requires.2, contents_read a.sensor.row a.d.now) in
     handed {taken = a.taken} behind told

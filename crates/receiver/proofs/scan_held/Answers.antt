@@ -123,10 +123,9 @@ slice_bounds-join-end c = sym (held_count c.args.session (count_within c.args.se
 pub join-joined-requires : goal.join-joined-requires
 join-joined-requires c =
     let wd = window (goal.at.join-joined-requires c).After-least-front (held_long (goal.at.join-joined-requires c).Start) in
-    let s = c in
     let held = count wd in (
-      omega (arith, held, longest_most c.args.session.setup c.requires.0 c.requires.1, s.requires.2),
-      omega (arith, held, front_most wd, length-take-le s.least-front.result s.args.piece.now (part_within wd)),
+      omega (arith, held, longest_most c.args.session.setup c.requires.0 c.requires.1, c.requires.2),
+      omega (arith, held, front_most wd, length-take-le c.least-front.result c.args.piece.now (part_within wd)),
     )
 
 pub overflow_add-n : goal.overflow_add-n
@@ -161,15 +160,14 @@ pub hand_out-requires : goal.hand_out-requires
 hand_out-requires c =
     let wd = window (goal.at.hand_out-requires c).After-least-front (held_long (goal.at.hand_out-requires c).Start) in
     let arm = complete_arm wd c.join-joined.ensures c.requires.4 c.in-Complete.ensures in
-    let s = c in
-    let a = s.args in
+    let a = c.args in
     let at = c.in-Complete.at in
     let n = 128 + length a.piece.now in
     let w = complete_within wd arm in
     let m = front_most wd in (
-      room_less a.session n at (omega (arith, w, m)) s.requires.3,
-      room_less a.session n (at + c.in-Complete.size - a.session.count) (omega (arith, w, m)) s.requires.3,
-      s.requires.4,
+      room_less a.session n at (omega (arith, w, m)) c.requires.3,
+      room_less a.session n (at + c.in-Complete.size - a.session.count) (omega (arith, w, m)) c.requires.3,
+      c.requires.4,
     )
 
 pub slice_bounds-hold-count : goal.slice_bounds-hold-count
@@ -186,8 +184,7 @@ pub hold-requires : goal.hold-requires
 hold-requires c =
     let wd = window (goal.at.hold-requires c).After-least-front (held_long (goal.at.hold-requires c).Start) in
     let arm = undecided_arm wd c.join-joined.ensures c.requires.4 c.in-Undecided.ensures in
-    let s = c in
-    let a = s.args in
+    let a = c.args in
     let at = c.in-Undecided.at in
     let n = 128 + length a.piece.now in
     let window = take (a.session.count + c.least-front.result) c.join-joined.result in
@@ -200,10 +197,10 @@ hold-requires c =
         window_length wd c.join-joined.ensures,
         front_length wd,
         arm.short,
-        (accepted_length a.session.setup s.requires.0).1,
+        (accepted_length a.session.setup c.requires.0).1,
       ),
-      room_less a.session n at (omega (arith, w, m)) s.requires.3,
-      room_less a.session n (length a.piece.now) (omega arith) s.requires.3,
+      room_less a.session n at (omega (arith, w, m)) c.requires.3,
+      room_less a.session n (length a.piece.now) (omega arith) c.requires.3,
     )
 
 pub overflow_sub-at : goal.overflow_sub-at
@@ -215,39 +212,35 @@ pub scan_on-requires : goal.scan_on-requires
 scan_on-requires c =
     let wd = window (goal.at.scan_on-requires c).After-least-front (held_long (goal.at.scan_on-requires c).Start) in
     let arm = undecided_arm wd c.join-joined.ensures c.requires.4 c.in-Undecided.ensures in
-    let s = c in
-    let a = s.args in
+    let a = c.args in
     let at = c.in-Undecided.at in
     let w = undecided_within wd arm in
     let m = front_most wd in (
-      s.requires.0,
+      c.requires.0,
       omega (arith, w, part_within wd),
-      room_less a.session (128 + length a.piece.now) (at + length a.piece.now) (omega (arith, w, m)) s.requires.3,
-      s.requires.4,
+      room_less a.session (128 + length a.piece.now) (at + length a.piece.now) (omega (arith, w, m)) c.requires.3,
+      c.requires.4,
     )
 
 pub returns-in-Complete : goal.returns-in-Complete
 returns-in-Complete c =
     let wd = window (goal.at.returns-in-Complete c).After-least-front (held_long (goal.at.returns-in-Complete c).Start) in
     let arm = complete_arm wd c.join-joined.ensures c.requires.4 c.in-Complete.ensures in
-    let l = c in
-    let s = l in
-    let a = s.args in
+    let a = c.args in
     let u = a.session.setup in
     let at = c.in-Complete.at in
     let n = c.in-Complete.size in
-    let m = l.least-front.result in
+    let m = c.least-front.result in
     let p = a.piece.now in
     let h = held_bytes a.session in
-    let joined = c in
-    let window = take (a.session.count + m) joined.join-joined.result in
+    let window = take (a.session.count + m) c.join-joined.result in
     let w = arm in
     let long = count wd in
     let e : at + n - a.session.count ≡ at + n - length h = omega (arith, long) in
     c.hand_out.ensures
     ∙ reply_found a.session p (take n (drop at (h ++ take m p))) (take (at + n - at) (drop at window)) (drop (at + n) (h ++ take m p) ++ drop m p)
-    at (at + n - a.session.count) (first (verdict_of u) (h ++ p)) (complete_joined u s.requires.0 h p m at w)
-    (e ∙ sym (complete_taken u s.requires.0 h p m at w (omega (arith, long, ends_behind wd arm)) (part_within wd)))
+    at (at + n - a.session.count) (first (verdict_of u) (h ++ p)) (complete_joined u c.requires.0 h p m at w)
+    (e ∙ sym (complete_taken u c.requires.0 h p m at w (omega (arith, long, ends_behind wd arm)) (part_within wd)))
     (part_of window at n ∙ ap (λ (y : List ℕ). take n (drop at y)) (window_is wd c.join-joined.ensures))
 
 pub returns-then-front-len : goal.returns-then-front-len
@@ -271,8 +264,7 @@ pub returns-else-front-len : goal.returns-else-front-len
 returns-else-front-len c =
     let wd = window (goal.at.returns-else-front-len c).After-least-front (held_long (goal.at.returns-else-front-len c).Start) in
     let arm = undecided_arm wd c.join-joined.ensures c.requires.4 c.in-Undecided.ensures in
-    let s = c in
-    let a = s.args in
+    let a = c.args in
     let u = a.session.setup in
     let at = c.in-Undecided.at in
     let m = c.least-front.result in
@@ -280,7 +272,7 @@ returns-else-front-len c =
     let h = held_bytes a.session in
     let l = count wd in
     let g : first (verdict_of u) (h ++ p) ≡ later at (first (verdict_of u) (drop (at - a.session.count) p)) =
-    undecided_joined u s.requires.0 h p m at arm (omega (arith, l, behind wd arm c.if-front-len.false)) (part_within wd)
+    undecided_joined u c.requires.0 h p m at arm (omega (arith, l, behind wd arm c.if-front-len.false)) (part_within wd)
     ∙ ap (λ (k : ℕ). later at (first (verdict_of u) (drop (at - k) p))) l
     in
     c.scan_on.ensures ∙ ap (reply_at_once a.session p) (sym g)

@@ -67,14 +67,13 @@ slice_bounds-hand_out-end c = omega (arith, complete_within (goal.at.slice_bound
 
 pub hand_out-requires : goal.hand_out-requires
 hand_out-requires c =
-    let s = c in
-    let a = s.args in
+    let a = c.args in
     let n = a.passed + length a.piece.now in
     let at = c.in-Complete.at in
     let w = complete_within (goal.at.hand_out-requires c).In-Complete in (
-      room_less a.session n _ (omega arith) s.requires.2,
-      room_less a.session n _ (omega arith) s.requires.2,
-      s.requires.3,
+      room_less a.session n _ (omega arith) c.requires.2,
+      room_less a.session n _ (omega arith) c.requires.2,
+      c.requires.3,
     )
 
 pub overflow_add-passed-in-Undecided : goal.overflow_add-passed-in-Undecided
@@ -88,8 +87,7 @@ slice_bounds-hold-start c = omega (arith, undecided_within (goal.at.slice_bounds
 
 pub hold-requires : goal.hold-requires
 hold-requires c =
-    let s = c in
-    let a = s.args in
+    let a = c.args in
     let at = c.in-Undecided.at in
     let n = a.passed + length a.piece.now in
     let rest = take (length a.piece.now - a.from) (drop a.from a.piece.now) in
@@ -100,16 +98,15 @@ hold-requires c =
         length-drop at rest,
         ap length (to_end a.piece.now a.from),
         (undecided_arm (goal.at.hold-requires c).In-Undecided).short,
-        (accepted_length a.session.setup s.requires.0).1,
+        (accepted_length a.session.setup c.requires.0).1,
       ),
-      room_less a.session n (a.passed + at) (omega arith) s.requires.2,
-      room_less a.session n (length a.piece.now) (omega arith) s.requires.2,
+      room_less a.session n (a.passed + at) (omega arith) c.requires.2,
+      room_less a.session n (length a.piece.now) (omega arith) c.requires.2,
     )
 
 pub returns-in-Complete : goal.returns-in-Complete
 returns-in-Complete c =
-    let s = c in
-    let a = s.args in
+    let a = c.args in
     let at = c.in-Complete.at in
     let n = c.in-Complete.size in
     let p = a.piece.now in
@@ -121,13 +118,12 @@ returns-in-Complete c =
     handed
     ∙ reply_found a.session p (take n (drop at q)) (take (at + n - at) (drop at rest)) (drop (at + n) q) (a.passed + at) (a.from + (at + n))
     (later a.passed (first (verdict_of a.session.setup) q)) (ap (later a.passed) w.scan)
-    (omega (arith, length-drop (at + n) q, length-drop a.from p, w.within, s.requires.1))
+    (omega (arith, length-drop (at + n) q, length-drop a.from p, w.within, c.requires.1))
     (part_of rest at n ∙ ap (λ (l : List ℕ). take n (drop at l)) (to_end p a.from))
 
 pub returns-in-Undecided : goal.returns-in-Undecided
 returns-in-Undecided c =
-    let s = c in
-    let a = s.args in
+    let a = c.args in
     let at = c.in-Undecided.at in
     let p = a.piece.now in
     let q = drop a.from p in

@@ -8,11 +8,10 @@ use Rattle.receiver.proofs.session_behind.Goals as goal
 
 pub returns : goal.returns
 returns c =
-    let s = c in
-    let a = s.args in
+    let a = c.args in
     let counted :
     c.session_with.result
     ≡ session_with a.session.setup a.history (a.session.passed + a.passed) (a.session.fed + a.taken) (take 64 a.undecided.now) =
     c.session_with.ensures in
     counted
-    ∙ ap (session_with a.session.setup a.history (a.session.passed + a.passed) (a.session.fed + a.taken)) (take_all 64 a.undecided.now s.requires.2)
+    ∙ ap (session_with a.session.setup a.history (a.session.passed + a.passed) (a.session.fed + a.taken)) (take_all 64 a.undecided.now c.requires.2)

@@ -6,8 +6,7 @@ use Rattle.stim_make.proofs.feed_bytes.Goals as goal
 
 pub loop-at-init : goal.loop-at-init
 loop-at-init g c =
-    let s = c in
-    (front_none s.args.start s.args.bytes.now s.requires.1 (search rules), omega arith)
+    (front_none c.args.start c.args.bytes.now c.requires.1 (search rules), omega arith)
 
 pub loop-at-preserved : goal.loop-at-preserved
 loop-at-preserved g c =

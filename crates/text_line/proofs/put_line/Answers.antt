@@ -41,8 +41,7 @@ put_heading-at-requires c = let s = (goal.at.put_heading-at-requires c).Start in
 
 pub put_groups-end-requires : goal.put_groups-end-requires
 put_groups-end-requires c =
-    let p = c in
-    room_first p.put_heading-at.result (groups (goal.at.put_groups-end-requires c).Start) (0x0A ∷ []) (room_rest (goal.at.put_groups-end-requires c).After-put_heading-at)
+    room_first c.put_heading-at.result (groups (goal.at.put_groups-end-requires c).Start) (0x0A ∷ []) (room_rest (goal.at.put_groups-end-requires c).After-put_heading-at)
 
 pub bounds-buffer-end : goal.bounds-buffer-end
 bounds-buffer-end c = omega (arith, room_end (goal.at.bounds-buffer-end c).After-put_groups-end)
@@ -52,7 +51,5 @@ overflow_add-result c = omega (arith, room_end (goal.at.overflow_add-result c).A
 
 pub returns : goal.returns
 returns c =
-    let groups-put = c in
-    let heading-put = groups-put in
     let start = (goal.at.returns c).Start in
-    rw (text start) (then_put {s = heading start} heading-put.put_heading-at.ensures (then_put {s = groups start} groups-put.put_groups-end.ensures put_byte))
+    rw (text start) (then_put {s = heading start} c.put_heading-at.ensures (then_put {s = groups start} c.put_groups-end.ensures put_byte))
