@@ -38,11 +38,12 @@ record Window (s : Session) (longest : ℕ) (p : List ℕ) (m : ℕ) : Type 0 wh
 held_long : (c : Start) → length c.args.session.held ≡ 64
 held_long c = search rules
 
-window :
-    (c : After-least-front) → length c.args.session.held ≡ 64
-    → Window c.args.session c.args.longest c.args.piece.now c.least-front.result
-window c h =
-    record { accepted = c.requires.0; greatest = c.requires.1; few = c.requires.2; held = h; part = c.least-front.ensures }
+held_behind : (c : After-least-front) → length c.args.session.held ≡ 64
+held_behind c = search rules
+
+window : (c : After-least-front) → Window c.args.session c.args.longest c.args.piece.now c.least-front.result
+window c =
+    record { accepted = c.requires.0; greatest = c.requires.1; few = c.requires.2; held = held_behind c; part = c.least-front.ensures }
 
 -- a datagram is of 65 bytes at most, so at most 64 are held
 longest_most : (u : Setup) {longest : ℕ} → ruling_on u ≡ Accepted → longest ≡ (rules_of u).greatest → longest ≤ 65
@@ -122,7 +123,7 @@ slice_bounds-join-end c = sym (held_count c.args.session (count_within c.args.se
 
 pub join-joined-requires : goal.join-joined-requires
 join-joined-requires c =
-    let wd = window (goal.at.join-joined-requires c).After-least-front (held_long (goal.at.join-joined-requires c).Start) in
+    let wd = window (goal.at.join-joined-requires c).After-least-front in
     let held = count wd in (
       omega (arith, held, longest_most c.args.session.setup c.requires.0 c.requires.1, c.requires.2),
       omega (arith, held, front_most wd, length-take-le c.least-front.result c.args.piece.now (part_within wd)),
@@ -130,35 +131,35 @@ join-joined-requires c =
 
 pub overflow_add-n : goal.overflow_add-n
 overflow_add-n c =
-    let wd = window (goal.at.overflow_add-n c).After-least-front (held_long (goal.at.overflow_add-n c).Start) in omega (arith, front_most wd)
+    let wd = window (goal.at.overflow_add-n c).After-least-front in omega (arith, front_most wd)
 
 pub slice_bounds-joined-end : goal.slice_bounds-joined-end
 slice_bounds-joined-end c =
-    let wd = window (goal.at.slice_bounds-joined-end c).After-least-front (held_long (goal.at.slice_bounds-joined-end c).Start) in omega (arith, front_most wd)
+    let wd = window (goal.at.slice_bounds-joined-end c).After-least-front in omega (arith, front_most wd)
 
 pub slice_bounds-window-end : goal.slice_bounds-window-end
 slice_bounds-window-end c =
-    let wd = window (goal.at.slice_bounds-window-end c).After-least-front (held_long (goal.at.slice_bounds-window-end c).Start) in
+    let wd = window (goal.at.slice_bounds-window-end c).After-least-front in
     sym (window_length wd c.join-joined.ensures)
 
 pub overflow_add-end : goal.overflow_add-end
 overflow_add-end c =
-    let wd = window (goal.at.overflow_add-end c).After-least-front (held_long (goal.at.overflow_add-end c).Start) in
+    let wd = window (goal.at.overflow_add-end c).After-least-front in
     let arm = complete_arm wd c.join-joined.ensures c.requires.4 c.in-Complete.ensures in omega (arith, complete_within wd arm, front_most wd)
 
 pub overflow_sub-end : goal.overflow_sub-end
 overflow_sub-end c =
-    let wd = window (goal.at.overflow_sub-end c).After-least-front (held_long (goal.at.overflow_sub-end c).Start) in
+    let wd = window (goal.at.overflow_sub-end c).After-least-front in
     let arm = complete_arm wd c.join-joined.ensures c.requires.4 c.in-Complete.ensures in ends_behind wd arm
 
 pub slice_bounds-hand_out-end : goal.slice_bounds-hand_out-end
 slice_bounds-hand_out-end c =
-    let wd = window (goal.at.slice_bounds-hand_out-end c).After-least-front (held_long (goal.at.slice_bounds-hand_out-end c).Start) in
+    let wd = window (goal.at.slice_bounds-hand_out-end c).After-least-front in
     let arm = complete_arm wd c.join-joined.ensures c.requires.4 c.in-Complete.ensures in omega (arith, complete_within wd arm, window_length wd c.join-joined.ensures)
 
 pub hand_out-requires : goal.hand_out-requires
 hand_out-requires c =
-    let wd = window (goal.at.hand_out-requires c).After-least-front (held_long (goal.at.hand_out-requires c).Start) in
+    let wd = window (goal.at.hand_out-requires c).After-least-front in
     let arm = complete_arm wd c.join-joined.ensures c.requires.4 c.in-Complete.ensures in
     let a = c.args in
     let at = c.in-Complete.at in
@@ -172,17 +173,17 @@ hand_out-requires c =
 
 pub slice_bounds-hold-count : goal.slice_bounds-hold-count
 slice_bounds-hold-count c =
-    let wd = window (goal.at.slice_bounds-hold-count c).After-least-front (held_long (goal.at.slice_bounds-hold-count c).Start) in
+    let wd = window (goal.at.slice_bounds-hold-count c).After-least-front in
     let arm = undecided_arm wd c.join-joined.ensures c.requires.4 c.in-Undecided.ensures in omega (arith, undecided_within wd arm, window_length wd c.join-joined.ensures)
 
 pub slice_bounds-hold-start : goal.slice_bounds-hold-start
 slice_bounds-hold-start c =
-    let wd = window (goal.at.slice_bounds-hold-start c).After-least-front (held_long (goal.at.slice_bounds-hold-start c).Start) in
+    let wd = window (goal.at.slice_bounds-hold-start c).After-least-front in
     let arm = undecided_arm wd c.join-joined.ensures c.requires.4 c.in-Undecided.ensures in omega (arith, undecided_within wd arm, window_length wd c.join-joined.ensures)
 
 pub hold-requires : goal.hold-requires
 hold-requires c =
-    let wd = window (goal.at.hold-requires c).After-least-front (held_long (goal.at.hold-requires c).Start) in
+    let wd = window (goal.at.hold-requires c).After-least-front in
     let arm = undecided_arm wd c.join-joined.ensures c.requires.4 c.in-Undecided.ensures in
     let a = c.args in
     let at = c.in-Undecided.at in
@@ -205,12 +206,12 @@ hold-requires c =
 
 pub overflow_sub-at : goal.overflow_sub-at
 overflow_sub-at c =
-    let wd = window (goal.at.overflow_sub-at c).After-least-front (held_long (goal.at.overflow_sub-at c).Start) in
+    let wd = window (goal.at.overflow_sub-at c).After-least-front in
     let arm = undecided_arm wd c.join-joined.ensures c.requires.4 c.in-Undecided.ensures in behind wd arm c.if-front-len.false
 
 pub scan_on-requires : goal.scan_on-requires
 scan_on-requires c =
-    let wd = window (goal.at.scan_on-requires c).After-least-front (held_long (goal.at.scan_on-requires c).Start) in
+    let wd = window (goal.at.scan_on-requires c).After-least-front in
     let arm = undecided_arm wd c.join-joined.ensures c.requires.4 c.in-Undecided.ensures in
     let a = c.args in
     let at = c.in-Undecided.at in
@@ -224,7 +225,7 @@ scan_on-requires c =
 
 pub returns-in-Complete : goal.returns-in-Complete
 returns-in-Complete c =
-    let wd = window (goal.at.returns-in-Complete c).After-least-front (held_long (goal.at.returns-in-Complete c).Start) in
+    let wd = window (goal.at.returns-in-Complete c).After-least-front in
     let arm = complete_arm wd c.join-joined.ensures c.requires.4 c.in-Complete.ensures in
     let a = c.args in
     let u = a.session.setup in
@@ -245,7 +246,7 @@ returns-in-Complete c =
 
 pub returns-then-front-len : goal.returns-then-front-len
 returns-then-front-len c =
-    let wd = window (goal.at.returns-then-front-len c).After-least-front (held_long (goal.at.returns-then-front-len c).Start) in
+    let wd = window (goal.at.returns-then-front-len c).After-least-front in
     let arm = undecided_arm wd c.join-joined.ensures c.requires.4 c.in-Undecided.ensures in
     let a = c.args in
     let u = a.session.setup in
@@ -262,7 +263,7 @@ returns-then-front-len c =
 
 pub returns-else-front-len : goal.returns-else-front-len
 returns-else-front-len c =
-    let wd = window (goal.at.returns-else-front-len c).After-least-front (held_long (goal.at.returns-else-front-len c).Start) in
+    let wd = window (goal.at.returns-else-front-len c).After-least-front in
     let arm = undecided_arm wd c.join-joined.ensures c.requires.4 c.in-Undecided.ensures in
     let a = c.args in
     let u = a.session.setup in
