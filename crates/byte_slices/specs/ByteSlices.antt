@@ -1,4 +1,4 @@
--- What copying gives, and where a byte stands first among others.
+-- A helper of proofs, no rule of 01: what copying gives, and where a byte stands first among others.
 use Rattle.std.specs.Prelude.{ℕ, List, [], ◌∷◌, ◌++◌, Bool, true, false, nat_eq, suc, length, take, drop}
 
 -- a target into whose front a source was copied: as much of the source as it has room for, and behind that what stood there
