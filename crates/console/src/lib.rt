@@ -1,6 +1,6 @@
 #![tactic(auto)]
 // What the programs share of reading: over any reader, so that a contract can say which bytes came.
-ghost use Rattle.std.specs.Prelude.{◌≡◌, ◌≤◌, ◌<◌, length, take, IfOk};
+ghost use Rattle.std.specs.Prelude.{◌≡◌, EachIndex, slice_index, ◌≤◌, ◌<◌, length, take, IfOk};
 ghost use Rattle.std.specs.Io.KnownBytes.{Consumes, IsAtEnd};
 
 use std::io;
@@ -8,7 +8,8 @@ use std::io::Read;
 
 // 65,536 zeros, for a loop that moves much data.
 pub fn large_buffer() -> [u8; 65536]
-    ensures { 65536 ≡ length result }
+    ensures length { 65536 ≡ length result }
+    ensures zeros { EachIndex result (λ k. slice_index result k ≡ 0) }
 {
     [0; 65536]
 }
