@@ -6,7 +6,8 @@ usage: tools/port_names.py [--list]      at the top of the repository
 A name is turned if it begins with a small letter and has a dash, a capital letter or a prime that is no apostrophe, and some .antt file below
 crates/ declares it: 'bigEndian' becomes 'big_endian', 'three-split' 'three_split'. Types, modules and what Rattle makes for a function
 (goals, steps, invariants) stay. It rewrites .antt and .rt files, must-fail edits, and code spans of README.md, CONTRIBUTING.md and docs/.
---list writes nothing and prints each old name with its new one. It stops where two names would fall together.
+Where two names would fall together, a definition has the plain name and the other '_lem' behind it.
+--list writes nothing and prints each old name with its new one.
 """
 
 import os
@@ -39,8 +40,8 @@ def snake(name):
         part = re.sub(r"(?<=[a-z0-9])([A-Z])", lambda m: "_" + m[1].lower(), part)
         part = re.sub(r"(?<=[a-z0-9])(?=[ℕℤ])", "_", part)
         parts.append(part)
-    new = "_".join(it for it in parts if it)
-    new = re.sub(r"^get_d(?=_|$)", "get_or", new)
+    # getD- was turned to get_d by port.py
+    new = re.sub(r"^get_d(?=_|$)", "get_or", "_".join(it for it in parts if it))
     return new.replace("′", "'").replace("·", "_")
 
 
@@ -49,26 +50,22 @@ def is_code(word):
 
 
 def declared():
-    """Each name that is declared, with the files that declare it."""
+    """Each name that is declared, with the files that declare it. In the proof of a function what answers a goal keeps its name."""
     found = {}
     for path in files("crates", ".antt"):
-        own = "/proofs/" in path and path.split("/proofs/")[1].count("/") > 0
-        for line in read(path).split("\n"):
+        of_function = "/" in path.partition("/proofs/")[2]
+        text = read(path)
+        for line in text.split("\n"):
             m = DECLARED.match(line)
             if not m or line.lstrip().startswith("--"):
                 continue
             name = m["name"]
-            if own and (MADE.search(line) or name.startswith(("invariant-", "decreases-", "measure-"))):
+            if of_function and (MADE.search(line) or name.startswith(("invariant-", "decreases-", "measure-"))):
                 continue
             found.setdefault(name, set()).add(path)
         # the constructors of a type, several in a line
-        for m in re.finditer(r"(?m)^ +((?:[a-z]\w* ){2,}[a-z]\w*) : [A-Z]\w*$", read(path)):
-            for name in m[1].split():
-                if is_code(name):
-                    CONSTRUCTORS.add(name)
-        for m in re.finditer(r"(?m)^ *(?:abbrev )?(?:pub )?(?:unfoldable )?(?:pub )?([^\s(){}.;,@\"«»:=λ]+)(?= :\n|:$| :$)", read(path)):
-            if not (own and "tie." in read(path)[m.end() : m.end() + 120].split("\n")[1] if "\n" in read(path)[m.end() : m.end() + 120] else False):
-                found.setdefault(m[1], set()).add(path)
+        for m in re.finditer(r"(?m)^ +((?:[a-z]\w* ){2,}[a-z]\w*) : [A-Z]\w*$", text):
+            CONSTRUCTORS.update(it for it in m[1].split() if is_code(it))
     return found
 
 
@@ -81,7 +78,6 @@ def turned(text, table, prose):
 
     out = []
     for line in text.split("\n"):
-        bare = line.lstrip()
         cut = len(line)
         for mark in ("-- ", "// "):
             at = line.find(mark)
