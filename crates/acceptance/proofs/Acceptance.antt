@@ -15,15 +15,13 @@ use Rattle.setup.specs.Layout.{bytes, parts_of, Layout, layout_of, length_in, ro
 use Rattle.setup.specs.Setup.{ruling_on, terminated, length_of}
 use Rattle.setup.specs.Sensor.{sensor_of}
 use Rattle.setup.specs.declared.Row.{Row}
-use Rattle.setup.specs.declared.Listing.{Listing}
-use Rattle.setup.specs.declared.Listing.TheVariants.{Listed, Unlisted}
 use Rattle.setup.specs.declared.Setup.{Setup}
-use Rattle.setup.specs.declared.Ruling.TheVariants as ruling
 use Rattle.setup.proofs.Layouts.{length_range}
 use Rattle.setup.proofs.Refusals as refusals
 use Rattle.setup.proofs.Sensors.{sensor_row}
 use Rattle.wire.proofs.FieldPlaces.{window_within, two_bytes, four_bytes}
 use Rattle.acceptance.specs.Acceptable.{same, check_right, ending_right, acceptable_in, acceptable_at, acceptable}
+use Rattle.std.specs.Prelude.{Option, None, Some, Ok}
 
 -- what an acceptable list of an identifier and a layout is known by
 pub record Right (i : ℕ) (l : Layout) (s : List ℕ) : Type 0 where
@@ -50,7 +48,7 @@ right i l s e =
 -- and one of a setup
 pub record Facts (u : Setup) (s : List ℕ) : Type 0 where
   pub row : Row
-  pub listed : row_at u.identifier ≡ Listed row
+  pub listed : row_at u.identifier ≡ Some row
   pub termination : u.termination ≤ 1
   pub long : length s ≡ length_of u
   pub first : get_or s 0 0 ≡ u.identifier
@@ -59,7 +57,7 @@ pub record Facts (u : Setup) (s : List ℕ) : Type 0 where
 
 module _ (u : Setup) (s : List ℕ) where
   -- by the row of its identifier
-  pub row_acceptable : {r : Row} → row_at u.identifier ≡ Listed r → u.termination ≤ 1
+  pub row_acceptable : {r : Row} → row_at u.identifier ≡ Some r → u.termination ≤ 1
       → acceptable u s ≡ acceptable_in u.identifier (layout_of r (terminated u)) s
   unfolding acceptable
   row_acceptable {r} e h =
@@ -69,8 +67,8 @@ module _ (u : Setup) (s : List ℕ) where
   unfolding acceptable
   accepted = by (row_at u.identifier) refl
     where
-      by : (l : Listing) → row_at u.identifier ≡ l → acceptable_at l u s ≡ true → Facts u s
-      by (Listed r) listed e =
+      by : (l : Option Row) → row_at u.identifier ≡ l → acceptable_at l u s ≡ true → Facts u s
+      by (Some r) listed e =
           let l = layout_of r (terminated u) in
           let both = and_split (leb u.termination 1) (acceptable_in u.identifier l s) e in
           let k = right u.identifier l s both.1 in
@@ -83,7 +81,7 @@ module _ (u : Setup) (s : List ℕ) where
             ending = k.ending;
             check = k.check;
           }
-      by Unlisted listed e = let z : ◌≡◌ {A = ℕ} 0 1 = cc in absurd (omega arith)
+      by None listed e = let z : ◌≡◌ {A = ℕ} 0 1 = cc in absurd (omega arith)
 
   pub accepts : Facts u s → acceptable u s ≡ true
   unfolding acceptable_in
@@ -103,7 +101,7 @@ module _ (u : Setup) (s : List ℕ) where
       rw (a.long, refusals.listed_length u a.listed) (length_range a.row (terminated u))
 
   -- of a setup that is accepted, by the sensor that it describes
-  pub sensor_acceptable : ruling_on u ≡ ruling.Accepted
+  pub sensor_acceptable : ruling_on u ≡ Ok tt
       → acceptable u s ≡ acceptable_in (sensor_of u).identifier (layout_of (sensor_of u).row (sensor_of u).terminated) s
   unfolding sensor_of
   sensor_acceptable ok = row_acceptable (sensor_row u ok) (refusals.accepted u ok).termination
@@ -113,9 +111,9 @@ pub same_acceptable : (u v : Setup) (s : List ℕ) → u.identifier ≡ v.identi
 unfolding acceptable
 same_acceptable u v s i t = ap (λ n. acceptable_at (row_at n) u s) i ∙ by (row_at v.identifier)
   where
-    by : (l : Listing) → acceptable_at l u s ≡ acceptable_at l v s
-    by (Listed r) = rw (i, t)
-    by Unlisted = refl
+    by : (l : Option Row) → acceptable_at l u s ≡ acceptable_at l v s
+    by (Some r) = rw (i, t)
+    by None = refl
 
 -- ---- as the code tests it
 

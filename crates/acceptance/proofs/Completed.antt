@@ -18,13 +18,13 @@ use Rattle.crc.proofs.Checks.{check32_lt}
 use Rattle.setup.specs.Layout.{bytes, parts_of, Layout, layout_of, row_at}
 use Rattle.setup.specs.Setup.{terminated, length_of}
 use Rattle.setup.specs.declared.Row.{Row}
-use Rattle.setup.specs.declared.Listing.TheVariants.{Listed}
 use Rattle.setup.specs.declared.Setup.{Setup}
 use Rattle.setup.proofs.Ranges.{unlisted}
 use Rattle.setup.proofs.Layouts.{before_range, length_parts}
 use Rattle.setup.proofs.Refusals.{listed_length}
 use Rattle.acceptance.specs.Acceptable.{same, check_right, ending_right, acceptable, completed}
 use Rattle.acceptance.proofs.Acceptance.{Facts, accepted, accepts}
+use Rattle.std.specs.Prelude.{Some}
 
 -- the four bytes of the check
 abbrev pub check_sent : List ℕ → List ℕ
@@ -48,7 +48,7 @@ same_equal (x ∷ k) [] e = let z : ◌≡◌ {A = ℕ} 0 1 = cc in absurd (omeg
 same_equal (x ∷ k) (y ∷ l) e = let both = and_split (eqb x y) (same k l) e in ap₂ ◌∷◌ (eqb-true x y both.0) (same_equal k l both.1)
 
 -- an identifier in the table is a byte
-pub listed_byte : (i : ℕ) {r : Row} → row_at i ≡ Listed r → i < 256
+pub listed_byte : (i : ℕ) {r : Row} → row_at i ≡ Some r → i < 256
 listed_byte i e = by (dec_lt i 256)
   where
     by : Dec (i < 256) → i < 256
@@ -63,7 +63,7 @@ pub completed_by : (r : Row) (t : Bool) (front : List ℕ) → completed (layout
 unfolding completed stim300 check32
 completed_by r t front = refl
 
-module _ (u : Setup) (r : Row) (listed : row_at u.identifier ≡ Listed r) (termination : u.termination ≤ 1) where
+module _ (u : Setup) (r : Row) (listed : row_at u.identifier ≡ Some r) (termination : u.termination ≤ 1) where
   abbrev pub laid : Layout
   laid = layout_of r (terminated u)
 
@@ -128,7 +128,7 @@ module _ (u : Setup) (r : Row) (listed : row_at u.identifier ≡ Listed r) (term
     known = accepted u s good
 
     row_same : known.row ≡ r
-    row_same = let e : Listed known.row ≡ Listed r = sym known.listed ∙ listed in cc
+    row_same = let e : Some known.row ≡ Some r = sym known.listed ∙ listed in cc
 
     abbrev n : ℕ
     n = bytes (parts_of r)

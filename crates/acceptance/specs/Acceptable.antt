@@ -1,11 +1,10 @@
 -- 01, The scan: L bytes are an acceptable datagram of a setup if identifier, check and termination are right.
-use Rattle.std.specs.Prelude.{ℕ, ◌+◌, Bool, true, false, ◌&&◌, List, [], ◌∷◌, ◌++◌, eqb, leb, length, get_or, take, drop}
+use Rattle.std.specs.Prelude.{ℕ, ◌+◌, Bool, true, false, ◌&&◌, List, [], ◌∷◌, ◌++◌, eqb, leb, length, get_or, take, drop, Option, None, Some}
 use Rattle.integers.specs.Bytes.{big_endian, in_bytes}
 use Rattle.crc.specs.Check.{check_of}
 use Rattle.setup.specs.Layout.{bytes, Layout, layout_of, check_bytes, length_in, row_at}
 use Rattle.setup.specs.Setup.{terminated}
-use Rattle.setup.specs.declared.Listing.{Listing}
-use Rattle.setup.specs.declared.Listing.TheVariants.{Listed, Unlisted}
+use Rattle.setup.specs.declared.Row.{Row}
 use Rattle.setup.specs.declared.Setup.{Setup}
 
 -- where the check stands, behind the parts; and where the ending stands, behind the check
@@ -34,9 +33,9 @@ unfoldable pub acceptable_in : ℕ → Layout → List ℕ → Bool
 acceptable_in identifier l s = eqb (length s) (length_in l) && eqb (get_or s 0 0) identifier && ending_right l s && check_right l s
 
 -- of a setup, whose rate, units and shifts don't matter here: none where the identifier isn't in the table or the termination isn't 0 or 1
-abbrev pub acceptable_at : Listing → Setup → List ℕ → Bool
-acceptable_at (Listed r) u s = leb u.termination 1 && acceptable_in u.identifier (layout_of r (terminated u)) s
-acceptable_at Unlisted u s = false
+abbrev pub acceptable_at : Option Row → Setup → List ℕ → Bool
+acceptable_at (Some r) u s = leb u.termination 1 && acceptable_in u.identifier (layout_of r (terminated u)) s
+acceptable_at None u s = false
 
 unfoldable pub acceptable : Setup → List ℕ → Bool
 acceptable u s = acceptable_at (row_at u.identifier) u s

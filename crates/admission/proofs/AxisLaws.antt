@@ -14,8 +14,8 @@ use Rattle.integers.proofs.Ranges.{within_true, le_within, in_reading_true, rang
 use Rattle.integers.proofs.Booleans.{and_split, and_true}
 use Rattle.setup.proofs.Refusals.{each}
 use Rattle.motion.specs.declared.Axis.{Axis}
-use Rattle.motion.specs.declared.GroupAxes.{GroupAxes}
-use Rattle.motion.specs.declared.Axes.{Axes}
+use Rattle.motion.specs.Totals.{GroupAxes}
+use Rattle.motion.specs.Totals.{Axes}
 use Rattle.motion.specs.Totals.{Sighting, no_axis, no_axes, kept_step, seen, stepped, axis_in, axis_at}
 use Rattle.motion.proofs.NineAxes.{step_at_lem, none_at}
 use Rattle.motion.proofs.Bounds.{step_bound, last_range, not_begun, step_not_kept}

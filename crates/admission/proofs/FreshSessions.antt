@@ -6,7 +6,6 @@ use native.Mathlib.Omega.{arith}
 use native.Mathlib.Nat.{mul-zero}
 use Rattle.setup.specs.Setup.{ruling_on, zero_setup, length_of}
 use Rattle.setup.specs.declared.Setup.{Setup}
-use Rattle.setup.specs.declared.Ruling.TheVariants.{Accepted}
 use Rattle.setup.proofs.Refusals.{zeros_refused}
 use Rattle.motion.specs.Totals.{groups_kept}
 use Rattle.scan.specs.OneLength.{held_rule}
@@ -14,8 +13,9 @@ use Rattle.session.specs.Session.{fresh_of}
 use Rattle.admission.specs.Admission.{all_zero, is_sound}
 use Rattle.admission.proofs.KeptLaws.{kept_none}
 use Rattle.admission.proofs.Soundness.{facts_sound, refused_unsound}
+use Rattle.std.specs.Prelude.{Ok}
 
-pub fresh_sound : (u : Setup) → ruling_on u ≡ Accepted → is_sound (fresh_of u) ≡ true
+pub fresh_sound : (u : Setup) → ruling_on u ≡ Ok tt → is_sound (fresh_of u) ≡ true
 unfolding fresh_of held_rule all_zero
 fresh_sound u e =
     facts_sound (fresh_of u)

@@ -14,7 +14,7 @@ use Rattle.integers.proofs.Folding.{InRange}
 use Rattle.integers.proofs.Booleans.{and_split, and_true}
 use Rattle.setup.proofs.Refusals.{each}
 use Rattle.motion.specs.declared.Axis.{Axis}
-use Rattle.motion.specs.declared.GroupAxes.{GroupAxes}
+use Rattle.motion.specs.Totals.{GroupAxes}
 use Rattle.motion.specs.Totals.{Sighting, no_group, kept_step, seen, stepped, axis_in, axis_at}
 use Rattle.motion.proofs.NineAxes.{step_at_lem}
 use Rattle.motion.proofs.Bounds.{not_begun}
@@ -22,7 +22,7 @@ use Rattle.gaps.specs.Gaps.{samples}
 use Rattle.gaps.specs.declared.Samples.{Samples}
 use Rattle.doubt.specs.Doubt.{added, no_doubt, no_gyro_doubt, doubt_step, kept_doubt, doubt_at}
 use Rattle.doubt.specs.declared.AxisDoubt.{AxisDoubt}
-use Rattle.doubt.specs.declared.GyroDoubt.{GyroDoubt}
+use Rattle.doubt.specs.Doubt.{GyroDoubt}
 use Rattle.doubt.proofs.DoubtLaws.{idle_step, step_most, gyro_step_at, no_doubt_at, kept_doubt_lem, unkept_doubt}
 use Rattle.history.specs.History.{no_history, awaits_first, history_next}
 use Rattle.history.specs.declared.History.{History}

@@ -1,27 +1,34 @@
 -- What it says that a session is sound, clause by clause (01, What is turned down, 10). Assumes nothing.
 use mathlib.Core.Path.{◌≡◌, refl, sym, ap, ◌∙◌}
-use mathlib.Core.Bool.{true, false, ◌&&◌, ◌||◌, and_assoc}
+use mathlib.Core.Bool.{Bool, true, false, ◌&&◌, ◌||◌, and_assoc}
 use mathlib.Core.List.{List, [], ◌∷◌}
 use Prim.Native.Nat.{ℕ, zero, suc, ◌+◌, ◌*◌, ◌≤◌}
 use native.Mathlib.Omega.{arith}
-use native.Mathlib.Nat.{mul-le-mul_right}
 use lib.Dec.{eqb, leb, ltb, eqb-suc-zero}
 use lib.ListN.{length, take, drop, get_or}
 use lib.Seq.{length-take-le}
 use borrow.Author.Tests.{eqb-true, eq-eqb, leb-true, le-leb}
 use Rattle.integers.proofs.Booleans.{and_split, and_true}
 use Rattle.setup.specs.Setup.{ruling_on, length_of}
-use Rattle.setup.specs.declared.Ruling.{Ruling}
-use Rattle.setup.specs.declared.Ruling.TheVariants.{Accepted, Refused}
+use Rattle.setup.specs.declared.Setup.{Setup}
+use Rattle.setup.specs.Sensor.{sensor_of}
+use Rattle.setup.specs.declared.Sensor.{Sensor}
+use Rattle.setup.proofs.Refusals.{accepted_length}
+use Rattle.setup.proofs.Sensors.{sensor_length}
+use Rattle.motion.specs.Totals.{kept_by}
+use Rattle.motion.proofs.AcceptedSetup.{accepted_kept}
 use Rattle.scan.specs.OneLength.{held_rule}
-use Rattle.search.specs.Search.{limits_of, rules_of}
+use Rattle.search.specs.Search.{limits_of, rules_of, size_in}
 use Rattle.session.specs.declared.Session.{Session}
 use Rattle.session.specs.Session.{is_accepted}
-use Rattle.admission.specs.Admission.{setup_right, held_bytes, held_right, all_zero, rest_right, sum_right, fed_right, kept_right, is_sound}
+use Rattle.admission.specs.Admission.{setup_right, held_bytes, held_right, all_zero, rest_right, sum_right, fed_right, kept_right_by, kept_right, is_sound}
+use Rattle.std.specs.Prelude.{Ok, Err}
+use Rattle.refusals.specs.Refusals.{Ruling}
+use Rattle.refusals.specs.declared.Refusal.{Refusal}
 
 -- the clauses as facts
 pub record Facts (s : Session) : Type 0 where
-  pub accepted : ruling_on s.setup ≡ Accepted
+  pub accepted : ruling_on s.setup ≡ Ok tt
   pub within : s.count ≤ length s.held
   pub held : (rules_of s.setup).may_hold (held_bytes s) ≡ true
   pub rest : all_zero (drop s.count s.held) ≡ true
@@ -29,9 +36,9 @@ pub record Facts (s : Session) : Type 0 where
   pub most : s.fed ≤ (limits_of s.setup).session
   pub kept : kept_right s.setup s.history ≡ true
 
-pub accepted_true : (j : Ruling) → is_accepted j ≡ true → j ≡ Accepted
-accepted_true Accepted e = refl
-accepted_true (Refused n) e = let z : ◌≡◌ {A = ℕ} 0 1 = cc in absurd (omega arith)
+pub accepted_true : (j : Ruling) → is_accepted j ≡ true → j ≡ Ok tt
+accepted_true (Ok tt) e = refl
+accepted_true (Err f) e = let z : ◌≡◌ {A = ℕ} 0 1 = cc in absurd (omega arith)
 
 pub sound_facts : (s : Session) → is_sound s ≡ true → Facts s
 unfolding is_sound
@@ -62,22 +69,32 @@ facts_sound s h =
     (and_true (le-leb s.fed (limits_of s.setup).session h.most) h.kept))))
 
 -- a session whose setup is refused is not sound
-pub refused_unsound : (s : Session) {n : ℕ} → ruling_on s.setup ≡ Refused n → is_sound s ≡ false
+pub refused_unsound : (s : Session) {e : Refusal} → ruling_on s.setup ≡ Err e → is_sound s ≡ false
 unfolding is_sound
 refused_unsound s e = rw e
 
 -- ---- what the tests of the code come to
 
--- the same test with its clauses in pairs, as the code takes them
-pub in_parts : (s : Session) →
-    is_sound s ≡ (setup_right s && ((held_right s && rest_right s) && ((sum_right s && fed_right s) && kept_right s.setup s.history)))
-unfolding is_sound
-in_parts s =
-    let rest = kept_right s.setup s.history in
-    sym
-    (ap (λ t. setup_right s && t)
-    (and_assoc (held_right s) (rest_right s) ((sum_right s && fed_right s) && rest)
-    ∙ ap (λ t. held_right s && (rest_right s && t)) (and_assoc (sum_right s) (fed_right s) rest)))
+-- the same test by what an accepted setup says of its sensor, with its clauses in pairs, as the code takes them
+abbrev pub by_sensor : Session → Sensor → Bool
+by_sensor s x =
+    ((leb s.count (length s.held) && held_rule x.identifier (size_in x) (held_bytes s)) && rest_right s)
+    && ((eqb (size_in x * s.history.datagrams.0 + s.passed + s.count) s.fed && fed_right s) && kept_right_by (kept_by x.row x.units) s.history)
+
+pub sound_in_turn : (s : Session) (x : Sensor) → ruling_on s.setup ≡ Ok tt → x ≡ sensor_of s.setup → is_sound s ≡ by_sensor s x
+unfolding is_sound sensor_of
+sound_in_turn s x a e =
+    rw (e, a, ← sensor_length s.setup a, accepted_kept s.setup a)
+    (sym
+    (and_assoc (held_right s) (rest_right s) ((sum_right s && fed_right s) && kept_right s.setup s.history)
+    ∙ ap (λ t. held_right s && (rest_right s && t)) (and_assoc (sum_right s) (fed_right s) (kept_right s.setup s.history))))
+
+-- the length of its datagrams is in the table
+pub size_range : (u : Setup) (x : Sensor) → ruling_on u ≡ Ok tt → x ≡ sensor_of u → (18 ≤ size_in x) × (size_in x ≤ 65)
+size_range u x a e =
+    let same : size_in x ≡ length_of u = ap size_in e ∙ sym (sensor_length u a) in
+    let range = accepted_length u a in
+    (omega (arith, range.0), omega (arith, range.1))
 
 -- the rule for held bytes by their count and their first
 pub held_rule_lem : (identifier size : ℕ) (bytes : List ℕ) (n : ℕ) → n ≤ length bytes
@@ -88,13 +105,3 @@ held_rule_lem identifier size [] (suc n) h = absurd (omega arith)
 held_rule_lem identifier size (b ∷ bytes) (suc n) h =
     let k : n ≤ length bytes = omega arith in
     rw (length-take-le n bytes k, eqb-suc-zero n)
-
--- right counts are few, for a datagram has some bytes
-pub counts_few :
-    (size datagrams passed held fed most : ℕ) → 1 ≤ size → (eqb (size * datagrams + passed + held) fed && leb fed most) ≡ true
-    → datagrams ≤ most
-counts_few size datagrams passed held fed most h e =
-    let p = and_split (eqb (size * datagrams + passed + held) fed) (leb fed most) e in
-    let x : size * datagrams + passed + held ≡ fed = eqb-true (size * datagrams + passed + held) fed p.0 in
-    let y : fed ≤ most = leb-true fed most p.1 in
-    omega (arith, mul-le-mul_right datagrams h)

@@ -9,6 +9,7 @@ use borrow.Author.Tests.{eqb-true, eq-eqb, ltb-true, lt-ltb}
 use lib.Dec.{eqb, ltb}
 use lib.ListN.{drop, get_or}
 use lib.Seq.{get_or-drop}
+use Rattle.std.specs.List.{list_all}
 use Rattle.integers.proofs.Ranges.{in_reading_true, range_in_reading}
 use Rattle.integers.proofs.Booleans.{and_split, and_true, or_true}
 use Rattle.setup.specs.Setup.{length_of}
@@ -41,6 +42,11 @@ either_held n first identifier size (inl e) = rw (eq-eqb n 0 e)
 either_held n first identifier size (inr p) = or_true (eqb n 0) (and_true (eq-eqb first identifier p.0) (lt-ltb n size p.1))
 
 -- ---- zeros beyond the count
+
+pub zeros_each : (l : List ℕ) → all_zero l ≡ list_all (λ b. eqb b 0) l
+unfolding all_zero
+zeros_each [] = refl
+zeros_each (b ∷ l) = ap (λ (t : Bool). eqb b 0 && t) (zeros_each l)
 
 zero_at : (l : List ℕ) → all_zero l ≡ true → (i : ℕ) → get_or l i 0 ≡ 0
 unfolding all_zero

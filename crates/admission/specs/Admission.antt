@@ -1,35 +1,29 @@
 -- 01, What is turned down: 10 of feeding, clause by clause, with 02, 2.5's; 11 and 12, of a piece.
-use Rattle.std.specs.Prelude.{ℕ, ◌+◌, ◌*◌, ◌^◌, Bool, true, false, not, ◌&&◌, ◌||◌, List, [], ◌∷◌, eqb, leb, ltb, length, take, drop, get_or}
+use Rattle.std.specs.Prelude.{ℕ, ◌+◌, ◌*◌, ◌^◌, Bool, true, false, not, ◌&&◌, ◌||◌, List, [], ◌∷◌, eqb, leb, ltb, length, take, drop, get_or, Result, Ok, Err}
 use Rattle.std.proofs.Math.Option.{Option, none, some}
 use Rattle.integers.specs.Ranges.{is_zero, within, in_reading}
-use Rattle.setup.specs.Setup.{Rule, rule, first_number, first_of, ruling_on, length_of}
+use Rattle.setup.specs.Setup.{Rule, rule, first_refusal, first_number, first_of, ruling_on, length_of}
 use Rattle.setup.specs.Sensor.{sensor_of}
 use Rattle.setup.specs.declared.Setup.{Setup}
 use Rattle.setup.specs.declared.Sensor.{Sensor}
-use Rattle.setup.specs.declared.Ruling.{Ruling}
-use Rattle.setup.specs.declared.Ruling.TheVariants.{Accepted, Refused}
 use Rattle.motion.specs.Totals.{groups_kept}
 use Rattle.motion.specs.declared.Axis.{Axis}
-use Rattle.motion.specs.declared.GroupAxes.{GroupAxes}
-use Rattle.motion.specs.declared.Axes.{Axes}
+use Rattle.motion.specs.Totals.{GroupAxes}
+use Rattle.motion.specs.Totals.{Axes}
 use Rattle.doubt.specs.Doubt.{greatest_sum}
 use Rattle.doubt.specs.declared.AxisDoubt.{AxisDoubt}
-use Rattle.doubt.specs.declared.GyroDoubt.{GyroDoubt}
+use Rattle.doubt.specs.Doubt.{GyroDoubt}
 use Rattle.history.specs.History.{awaits_first}
 use Rattle.history.specs.declared.History.{History}
 use Rattle.scan.specs.Rules as rules
 use Rattle.search.specs.Search.{limits_of, rules_of}
 use Rattle.session.specs.Session.{is_accepted}
 use Rattle.session.specs.declared.Session.{Session}
-use Rattle.admission.specs.declared.Limits.{Limits}
-use Rattle.admission.specs.declared.Admission.{Admission}
-use Rattle.admission.specs.declared.Admission as admission
+use Rattle.refusals.specs.Refusals.{number_of, Ruling, unless_refused}
+use Rattle.refusals.specs.declared.Refusal.{Refusal}
+use Rattle.refusals.specs.declared.Refusal.TheVariants.{SessionUnsound, StreamTooLong}
 
 -- ---- what feeding asks of a session: refusal 10, in 01's order
-
--- limits as the code has them
-abbrev pub as_struct : rules.Limits → Limits
-as_struct l = record { piece = l.piece; too_long = l.too_long; session = l.session }
 
 -- its setup would not be refused
 abbrev pub setup_right : Session → Bool
@@ -123,28 +117,27 @@ is_sound s =
 abbrev pub piece_rules : Session → ℕ → List Rule
 piece_rules s n =
     let l : rules.Limits = limits_of s.setup in
-    rule 10 (not (is_sound s)) ∷ rule l.too_long (ltb l.piece n) ∷ rule 12 (ltb l.session (s.fed + n)) ∷ []
+    rule SessionUnsound (not (is_sound s)) ∷ rule l.too_long (ltb l.piece n) ∷ rule StreamTooLong (ltb l.session (s.fed + n)) ∷ []
 
--- the number that refuses it, none for a piece that is admitted
+-- what refuses it, none for a piece that is admitted, and its number
+unfoldable pub piece_refusal : Session → ℕ → Option Refusal
+piece_refusal s n = first_refusal (piece_rules s n)
+
 unfoldable pub piece_number : Session → ℕ → Option ℕ
 piece_number s n = first_number (piece_rules s n)
 
 unfoldable pub piece_ruling : Session → ℕ → Ruling
 piece_ruling s n = first_of (piece_rules s n)
 
--- the number that refuses it, else the sensor of the session's setup
-abbrev pub admission_by : Ruling → Sensor → Admission
-admission_by Accepted sensor = admission.TheVariants.Admitted sensor
-admission_by (Refused number) sensor = admission.TheVariants.Refused number
+-- what refuses it, else the sensor of the session's setup
+unfoldable pub admission_of : Session → ℕ → Result Sensor Refusal
+admission_of s n = unless_refused (piece_ruling s n) (sensor_of s.setup)
 
-unfoldable pub admission_of : Session → ℕ → Admission
-admission_of s n = admission_by (piece_ruling s n) (sensor_of s.setup)
+-- what each case says: the sensor, or the number of what refuses the piece
+abbrev pub admission_sensor : Result Sensor Refusal → Option Sensor
+admission_sensor (Ok sensor) = some sensor
+admission_sensor (Err e) = none
 
--- what each case says: the sensor, or the number that refuses the piece
-abbrev pub admission_sensor : Admission → Option Sensor
-admission_sensor (admission.TheVariants.Admitted sensor) = some sensor
-admission_sensor (admission.TheVariants.Refused number) = none
-
-abbrev pub admission_number : Admission → Option ℕ
-admission_number (admission.TheVariants.Admitted sensor) = none
-admission_number (admission.TheVariants.Refused number) = some number
+abbrev pub admission_number : Result Sensor Refusal → Option ℕ
+admission_number (Ok sensor) = none
+admission_number (Err e) = some (number_of e)

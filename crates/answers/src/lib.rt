@@ -5,12 +5,13 @@ ghost use Rattle.motion.specs.Totals.{no_axes, totals_of};
 ghost use Rattle.feeding.specs.Feed.{datagram_with, no_fields, all_fit, no_values, no_doubles, no_marks, no_datagram};
 ghost use Rattle.feeding.specs.CallParts.{contents_with};
 
-use doubles::{GroupValues, TotalDoubles, Values};
+use doubles::{TotalDoubles, Values};
 use doubt::GyroMarks;
 use feeding::Datagram;
 use gaps::{Datagrams, Gap};
+use groups::{PerAxis, PerGroup};
 use history::History;
-use motion::{GroupJudgements, GroupTotals, Judgement, Judgements, Total, Totals};
+use motion::{Judgement, Judgements, Total, Totals};
 use setup::Sensor;
 use wire::Fields;
 
@@ -24,36 +25,23 @@ pub fn datagram_of(
 ) -> Datagram
     ensures { result ≡ datagram_with sensor gap (contents_with readings fields) history }
 {
-    let axes = history.axes;
-    let doubt = history.doubt;
     let statuses = fields.statuses;
-    let flagged = [
-        motion::flagged_channels(statuses[0]),
-        motion::flagged_channels(statuses[1]),
-        motion::flagged_channels(statuses[2]),
-    ];
-    let judgements = motion::judgements_of(statuses);
-    let units = sensor.units;
-    let shifts = sensor.shifts;
-    let values = doubles::group_values(units, shifts, readings);
-    let totals = motion::totals_of(axes);
-    let doubles = doubles::total_doubles(shifts, axes);
-    let doubtful = doubt::marks_of(doubt);
-    let gyro = readings[0];
-    let accelerometer = readings[1];
-    let inclinometer = readings[2];
     Datagram {
-        gyro: gyro,
-        accelerometer: accelerometer,
-        inclinometer: inclinometer,
+        gyro: readings[0],
+        accelerometer: readings[1],
+        inclinometer: readings[2],
         fields: fields,
-        flagged: flagged,
-        judgements: judgements,
-        values: values,
+        flagged: [
+            motion::flagged_channels(statuses[0]),
+            motion::flagged_channels(statuses[1]),
+            motion::flagged_channels(statuses[2]),
+        ],
+        judgements: motion::judgements_of(statuses),
+        values: doubles::group_values(sensor.units, sensor.shifts, readings),
         gap: gap,
-        totals: totals,
-        doubles: doubles,
-        doubtful: doubtful,
+        totals: motion::totals_of(history.axes),
+        doubles: doubles::total_doubles(sensor.shifts, history.axes),
+        doubtful: doubt::marks_of(history.doubt),
     }
 }
 
@@ -78,17 +66,7 @@ fn no_fields() -> Fields
 fn all_fit() -> Judgements
     ensures { result ≡ all_fit }
 {
-    let fit = Judgement::Fit;
-    let group = GroupJudgements {
-        x: fit,
-        y: fit,
-        z: fit,
-    };
-    Judgements {
-        gyro: group,
-        accelerometer: group,
-        inclinometer: group,
-    }
+    PerGroup::each(PerAxis::each(Judgement::Fit))
 }
 
 // The values of a group there: zeros in unit 0.
@@ -99,23 +77,14 @@ fn no_values() -> Values
 }
 
 // The totals there, none of which has begun.
+#[tactic(auto, unfolding(motion::specs::Totals::totals_of))]
 fn no_totals() -> Totals
     ensures { result ≡ totals_of no_axes }
 {
-    let total = Total {
+    PerGroup::each(PerAxis::each(Total {
         begun: false,
         steps: 0,
-    };
-    let group = GroupTotals {
-        x: total,
-        y: total,
-        z: total,
-    };
-    Totals {
-        gyro: group,
-        accelerometer: group,
-        inclinometer: group,
-    }
+    }))
 }
 
 // The totals there as doubles.
@@ -139,40 +108,25 @@ fn no_doubles() -> TotalDoubles
 fn no_marks() -> GyroMarks
     ensures { result ≡ no_marks }
 {
-    GyroMarks {
-        x: false,
-        y: false,
-        z: false,
-    }
+    PerAxis::each(false)
 }
 
 // What comes back in a datagram's place where none is handed out.
+#[tactic(auto, unfolding(feeding::specs::Feed::no_datagram))]
 pub fn no_datagram() -> Datagram
     ensures { result ≡ no_datagram }
 {
-    let fields = no_fields();
-    let judgements = all_fit();
-    let none = no_values();
-    let values = GroupValues {
-        gyro: none,
-        accelerometer: none,
-        inclinometer: none,
-    };
-    let gap = Gap::Missed(Datagrams(0));
-    let totals = no_totals();
-    let doubles = no_doubles();
-    let doubtful = no_marks();
     Datagram {
         gyro: [0; 3],
         accelerometer: [0; 3],
         inclinometer: [0; 3],
-        fields: fields,
+        fields: no_fields(),
         flagged: [0; 3],
-        judgements: judgements,
-        values: values,
-        gap: gap,
-        totals: totals,
-        doubles: doubles,
-        doubtful: doubtful,
+        judgements: all_fit(),
+        values: PerGroup::each(no_values()),
+        gap: Gap::Missed(Datagrams(0)),
+        totals: no_totals(),
+        doubles: no_doubles(),
+        doubtful: no_marks(),
     }
 }

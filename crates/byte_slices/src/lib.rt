@@ -17,12 +17,6 @@ pub fn copy(source: &[u8], target: &mut [u8]) -> usize
 pub fn find(bytes: &[u8], from: usize, byte: u8) -> usize
     ensures { result ≡ from + index_of byte (drop from bytes.now) }
 {
-    let mut i = from;
-    while i < bytes.len() {
-        if bytes[i] == byte {
-            return i;
-        }
-        i += 1;
-    }
-    i
+    let rest = &bytes[from.min(bytes.len())..];
+    from + rest.iter().position(|&x| x == byte).unwrap_or(rest.len())
 }

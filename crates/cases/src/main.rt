@@ -8,30 +8,21 @@
 //     fit STATUS XYZ COUNT   which axes a status leaves fit (1), and how many channels it flags
 //     judged STATUS XYZ      the judgement of each axis by a status: 0 fit, 1 integrity, 2 start-up, 3 error, 4 overload
 //     gap RATE FIRST PREVIOUS COUNTER MISSED     the datagrams missed, or `?`
-ghost use Rattle.std.specs.Prelude.{◌≡◌, ◌≤◌, length};
+ghost use Rattle.std.specs.Prelude.{◌≤◌};
 
 use gaps::Gap;
 use motion::{GroupJudgements, Judgement};
-use setup::{Described, Listing, Rate, Row, Setup};
+use refusals::Refusal;
+use setup::{Rate, Row, Sensor, Setup};
+use std::alloc::{AllocError, Global};
 use std::io;
 use std::io::Write;
 
-// Where the word k of a given begins, or its end.
-fn word_start(given: &[u8], k: usize) -> usize
-    ensures { result ≤ length given.now }
+// What follows the first k words, nothing where there are no more. The bound keeps k + 1 from wrapping; a narrower type would be cast where words are counted.
+fn rest_at(given: &[u8], k: usize) -> &[u8]
+    requires { k ≤ 100 }
 {
-    let mut left = k;
-    let mut i: usize = 0;
-    while i < given.len() {
-        if left == 0 {
-            return i;
-        }
-        if given[i] == 0x20 {
-            left -= 1;
-        }
-        i += 1;
-    }
-    i
+    given.splitn(k + 1, |b| *b == b' ').nth(k).unwrap_or(b"")
 }
 
 // The value of a hexadecimal digit, and some value of any other byte.
@@ -41,106 +32,63 @@ fn digit_value(b: u8) -> u8
     if b < 0x40 { b % 16 } else { (b % 8 + 9) % 16 }
 }
 
-// The decimal number at a place.
-fn decimal_at(given: &[u8], from: usize) -> u64 {
-    let mut number: u64 = 0;
-    let mut i = from;
-    while i < given.len() {
-        let b = given[i];
-        if (b < 0x30) | (0x39 < b) {
-            return number;
-        }
-        number = number % 1000000000000000000 * 10 + digit_value(b) as u64;
-        i += 1;
-    }
-    number
+// The decimal number at the front.
+fn decimal_of(rest: &[u8]) -> u64 {
+    rest.iter().take_while(|b| b.is_ascii_digit()).fold(
+        0,
+        |number, b| number % 1000000000000000000 * 10 + digit_value(*b) as u64,
+    )
 }
 
-// The hexadecimal number at a place, up to the next space.
-fn hexadecimal_at(given: &[u8], from: usize) -> u64 {
-    let mut number: u64 = 0;
-    let mut i = from;
-    while i < given.len() {
-        let b = given[i];
-        if b == 0x20 {
-            return number;
-        }
-        number = number % 1152921504606846976 * 16 + digit_value(b) as u64;
-        i += 1;
-    }
-    number
+// The hexadecimal number at the front, up to the next space.
+fn hexadecimal_of(rest: &[u8]) -> u64 {
+    rest.iter().take_while(|b| **b != b' ').fold(
+        0,
+        |number, b| number % 1152921504606846976 * 16 + digit_value(*b) as u64,
+    )
 }
 
-#[derive(Clone, Copy)]
-struct Bytes {
-    bytes: [u8; 256],
-    count: usize,
-}
-
-// The bytes that pairs of hexadecimal digits write, 256 at most.
-fn bytes_of(digits: &[u8]) -> Bytes
-    ensures { (result.count ≤ 256) × (length result.bytes ≡ 256) }
+// The bytes that the word k and what follows it write by pairs of hexadecimal digits, 256 at most.
+fn bytes_at(alloc: Global, given: &[u8], k: usize) -> Result<Vec<u8>, AllocError>
+    requires { k ≤ 100 }
 {
-    let mut bytes = [0u8; 256];
-    let mut count: usize = 0;
-    while count < 256 {
-        if digits.len() <= 2 * count + 1 {
-            return Bytes {
-                bytes: bytes,
-                count: count,
-            };
-        }
-        let high = digit_value(digits[2 * count]);
-        let low = digit_value(digits[2 * count + 1]);
-        bytes[count] = high * 16 + low;
-        count += 1;
-    }
-    Bytes {
-        bytes: bytes,
-        count: count,
-    }
+    let (pairs, _) = rest_at(given, k).as_chunks::<2>();
+    pairs
+        .iter()
+        .take(256)
+        .map(|pair| digit_value(pair[0]) * 16 + digit_value(pair[1]))
+        .collect(alloc)
 }
 
-// The bytes that the word k and what follows it write.
-fn bytes_at(given: &[u8], k: usize) -> Bytes
-    ensures { (result.count ≤ 256) × (length result.bytes ≡ 256) }
+fn value_at(given: &[u8], k: usize) -> u16
+    requires { k ≤ 100 }
 {
-    let at = word_start(given, k);
-    bytes_of(&given[at..])
+    (decimal_of(rest_at(given, k)) % 65536) as u16
 }
 
-fn value_at(given: &[u8], k: usize) -> u16 {
-    (decimal_at(given, word_start(given, k)) % 65536) as u16
+fn check_case(alloc: Global, given: &[u8]) -> Result<bool, AllocError> {
+    let bytes = bytes_at(alloc, given, 2)?;
+    Ok(crc::crc32(&bytes) as u64 == hexadecimal_of(rest_at(given, 1)))
 }
 
-fn check_case(given: &[u8]) -> bool {
-    let checked = bytes_at(given, 2);
-    let bytes = checked.bytes;
-    let count = checked.count;
-    crc::crc32(&bytes[0..count]) as u64 == hexadecimal_at(given, word_start(given, 1))
-}
-
-fn mpeg2_case(given: &[u8]) -> bool {
-    let checked = bytes_at(given, 2);
-    let bytes = checked.bytes;
-    let count = checked.count;
-    crc::crc32_mpeg2(&bytes[0..count]) as u64 == hexadecimal_at(given, word_start(given, 1))
+fn mpeg2_case(alloc: Global, given: &[u8]) -> Result<bool, AllocError> {
+    let bytes = bytes_at(alloc, given, 2)?;
+    Ok(crc::crc32_mpeg2(&bytes) as u64 == hexadecimal_of(rest_at(given, 1)))
 }
 
 // The number at the word k, `-` before a negative one.
-fn signed_at(given: &[u8], k: usize) -> i64 {
-    let at = word_start(given, k);
-    if given.len() <= at {
-        return 0;
+fn signed_at(given: &[u8], k: usize) -> i64
+    requires { k ≤ 100 }
+{
+    let rest = rest_at(given, k);
+    match rest.strip_prefix(b"-") {
+        Some(digits) => 0 - (decimal_of(digits) % 9223372036854775808) as i64,
+        None => (decimal_of(rest) % 9223372036854775808) as i64,
     }
-    if given[at] == 0x2D {
-        return 0 - (decimal_at(given, at + 1) % 9223372036854775808) as i64;
-    }
-    (decimal_at(given, at) % 9223372036854775808) as i64
 }
 
 // What a setup of these says, its groups unset.
-fn described_by(identifier: u8, termination: u16, rate: u16) -> Described {
+fn described_by(identifier: u8, termination: u16, rate: u16) -> Result<Sensor, Refusal> {
     setup::describe(Setup {
         rate: rate,
         identifier: identifier,
@@ -150,23 +98,22 @@ fn described_by(identifier: u8, termination: u16, rate: u16) -> Described {
     })
 }
 
-fn accepts_case(given: &[u8]) -> bool {
+fn accepts_case(alloc: Global, given: &[u8]) -> Result<bool, AllocError> {
     let described = described_by((value_at(given, 2) % 256) as u8, value_at(given, 3), 0);
-    let datagram = bytes_at(given, 4);
-    let bytes = datagram.bytes;
-    let count = datagram.count;
+    let bytes = bytes_at(alloc, given, 4)?;
     let expected = value_at(given, 1) == 1;
-    match described {
-        Described::Accepted(sensor) => {
+    Ok(match described {
+        Ok(sensor) => {
             let row = sensor.row;
-            let part = &bytes[0..count];
-            acceptance::is_acceptable(sensor.identifier, row, sensor.terminated, part) == expected
+            acceptance::is_acceptable(sensor.identifier, row, sensor.terminated, &bytes) == expected
         }
-        Described::Refused(_) => !expected,
-    }
+        Err(_) => !expected,
+    })
 }
 
-fn same_reading(reading: i32, given: &[u8], k: usize) -> bool {
+fn same_reading(reading: i32, given: &[u8], k: usize) -> bool
+    requires { k ≤ 100 }
+{
     reading as i64 == signed_at(given, k)
 }
 
@@ -196,15 +143,13 @@ fn same_contents(given: &[u8], row: Row, bytes: &[u8]) -> bool {
         & (wire::latency(row, bytes) == value_at(given, 15))
 }
 
-fn decodes_case(given: &[u8]) -> bool {
-    let datagram = bytes_at(given, 16);
-    let bytes = datagram.bytes;
-    let count = datagram.count;
+fn decodes_case(alloc: Global, given: &[u8]) -> Result<bool, AllocError> {
+    let bytes = bytes_at(alloc, given, 16)?;
     let listing = setup::row_of((value_at(given, 1) % 256) as u8);
-    match listing {
-        Listing::Listed(row) => same_contents(given, row, &bytes[0..count]),
-        Listing::Unlisted => false,
-    }
+    Ok(match listing {
+        Some(row) => same_contents(given, row, &bytes),
+        None => false,
+    })
 }
 
 fn one_if(set: bool, weight: u32) -> u32
@@ -236,68 +181,58 @@ fn place_of(judgement: Judgement) -> u32
 }
 
 fn same_judgements(group: GroupJudgements, digits: u32) -> bool {
-    let x = group.x;
-    let y = group.y;
-    let z = group.z;
-    place_of(x) * 100 + place_of(y) * 10 + place_of(z) == digits
+    place_of(group.x) * 100 + place_of(group.y) * 10 + place_of(group.z) == digits
 }
 
 fn judged_case(given: &[u8]) -> bool {
     let status = (value_at(given, 1) % 256) as u8;
     let digits = value_at(given, 2) as u32;
-    let judgements = motion::judgements_of([status; 3]);
-    let gyro = judgements.gyro;
-    let accelerometer = judgements.accelerometer;
-    let inclinometer = judgements.inclinometer;
-    same_judgements(gyro, digits)
-        & same_judgements(accelerometer, digits)
-        & same_judgements(inclinometer, digits)
+    motion::judgements_of([status; 3])
+        .map(|group| same_judgements(group, digits))
+        .all()
 }
 
 fn same_gap(given: &[u8], rate: Rate) -> bool {
     let previous = (value_at(given, 3) % 256) as u8;
     let counter = (value_at(given, 4) % 256) as u8;
     let gap = gaps::gap_between(rate, value_at(given, 2) == 1, previous, counter);
-    let at = word_start(given, 5);
-    if given.len() <= at {
+    let rest = rest_at(given, 5);
+    let Some(first) = rest.first() else {
         return false;
-    }
+    };
     match gap {
-        Gap::Missed(count) => (given[at] != 0x3F) & (count.0 == decimal_at(given, at)),
-        Gap::OffStep => given[at] == 0x3F,
+        Gap::Missed(count) => (*first != b'?') & (count.0 == decimal_of(rest)),
+        Gap::OffStep => *first == b'?',
     }
 }
 
 fn gap_case(given: &[u8]) -> bool {
     let described = described_by(0x90, 0, value_at(given, 1));
     match described {
-        Described::Accepted(sensor) => {
+        Ok(sensor) => {
             let rate = sensor.rate;
             same_gap(given, rate)
         }
-        Described::Refused(_) => false,
+        Err(_) => false,
     }
 }
 
-fn passes(given: &[u8]) -> bool {
-    if given.len() == 0 {
-        return false;
-    }
-    let kind = given[0];
-    match kind {
-        b'c' => check_case(given),
-        b'm' => mpeg2_case(given),
-        b'a' => accepts_case(given),
-        b'd' => decodes_case(given),
-        b'f' => fit_case(given),
-        b'j' => judged_case(given),
-        b'g' => gap_case(given),
-        _ => false,
+// Whether a case comes out as it says: one arm for each kind, each with its call.
+fn passes(alloc: Global, given: &[u8]) -> Result<bool, AllocError> {
+    match given.first() {
+        Some(b'c') => check_case(alloc, given),
+        Some(b'm') => mpeg2_case(alloc, given),
+        Some(b'a') => accepts_case(alloc, given),
+        Some(b'd') => decodes_case(alloc, given),
+        Some(b'f') => Ok(fit_case(given)),
+        Some(b'j') => Ok(judged_case(given)),
+        Some(b'g') => Ok(gap_case(given)),
+        _ => Ok(false),
     }
 }
 
-fn run<W: Write>(writer: &mut W, given: &[u8]) -> io::Result<()> {
-    if passes(given) {
+fn run<W: Write>(writer: &mut W, alloc: Global, given: &[u8]) -> io::Result<()> {
+    if passes(alloc, given)? {
         writer.write_all(b"ok ")?;
     } else {
         writer.write_all(b"WRONG ")?;
@@ -306,15 +241,12 @@ fn run<W: Write>(writer: &mut W, given: &[u8]) -> io::Result<()> {
     writer.write_all(b"\n")
 }
 
-fn run_all<W: Write>(writer: &mut W, text: &[u8]) -> io::Result<()> {
-    let mut from: usize = 0;
-    let mut i: usize = 0;
-    while i < text.len() {
-        if text[i] == 0x0A {
-            run(writer, &text[from..i])?;
-            from = i + 1;
+// Runs the lines that end; a last one without 0x0A is no case.
+fn run_all<W: Write>(writer: &mut W, alloc: Global, text: &[u8]) -> io::Result<()> {
+    for line in text.split_inclusive(|b| *b == b'\n') {
+        if let Some(given) = line.strip_suffix(b"\n") {
+            run(writer, alloc, given)?;
         }
-        i += 1;
     }
     Ok(())
 }
@@ -322,5 +254,5 @@ fn run_all<W: Write>(writer: &mut W, text: &[u8]) -> io::Result<()> {
 fn main(rt: HostRuntime) -> io::Result<()> {
     let mut buffer = console::large_buffer();
     let count = console::read_full(&mut rt.stdin(), &mut buffer)?;
-    run_all(&mut rt.stdout(), &buffer[..count])
+    run_all(&mut rt.stdout(), rt.alloc(), &buffer[..count])
 }

@@ -2,12 +2,14 @@
 -- Assumes nothing.
 use mathlib.Core.Path.{◌≡◌, sym, ap, ◌∙◌, subst}
 use mathlib.Core.List.{[], ◌∷◌}
-use Prim.Native.Nat.{ℕ, ◌+◌, ◌-◌, ◌*◌, ◌%◌, ◌^◌, ◌≤◌, ◌<◌}
+use Prim.Native.Nat.{ℕ, ◌+◌, ◌-◌, ◌*◌, ◌^◌, ◌≤◌, ◌<◌}
 use native.Mathlib.Nat.{mul-one, mul_assoc, mul-le-mul_left}
 use native.Mathlib.Omega.{arith}
 use lib.Dec.{lit<, lit≤}
-use lib.Pow.{pow_pos, shl_exact}
-use lib.Bits.{bit_xor, xor_lt}
+use lib.Pow.{pow_pos}
+use lib.Bits.{bit_xor, xor_lt, xor_shifted}
+use mir.Syntax.{w32}
+use Rattle.std.specs.Int.{from_be_bytes}
 use Rattle.crc.specs.Check.{shifts, byte_step, register}
 use Rattle.crc.proofs.Xor.{xor_assoc}
 use Rattle.crc.specs.Wide.{wide_polynomial, remainder}
@@ -28,20 +30,22 @@ module _ (w p : ℕ) (hw : 8 ≤ w) (hp : p < 2 ^ w) where
       ∙ sym (shifts_xor w p hw hp n c (x * 2 ^ j) hc (omega arith)))
       ∙ sym (shifts_add w p hw n 8 (bit_xor c (x * 2 ^ j)))
 
--- the four bytes as a number, as the code computes it
+-- the four bytes as a number
 abbrev pub joined : ℕ → ℕ → ℕ → ℕ → ℕ
-joined x1 x2 x3 x4 = bit_xor (bit_xor (bit_xor (x1 * 2 ^ 24 % 2 ^ 64) (x2 * 2 ^ 16 % 2 ^ 64)) (x3 * 2 ^ 8 % 2 ^ 64)) x4
+joined x1 x2 x3 x4 = from_be_bytes w32 (x1 ∷ x2 ∷ x3 ∷ x4 ∷ [])
 
 module _ (x1 x2 x3 x4 : ℕ) (h1 : x1 < 2 ^ 8) (h2 : x2 < 2 ^ 8) (h3 : x3 < 2 ^ 8) (h4 : x4 < 2 ^ 8) where
   joined_exact : joined x1 x2 x3 x4 ≡ bit_xor (bit_xor (bit_xor (x1 * 2 ^ 24) (x2 * 2 ^ 16)) (x3 * 2 ^ 8)) x4
-  joined_exact = simp (shl_exact 8 24 64 h1 (lit≤ tt), shl_exact 8 16 64 h2 (lit≤ tt), shl_exact 8 8 64 h3 (lit≤ tt))
+  joined_exact =
+      let two : bit_xor (x1 * 2 ^ 24) (x2 * 2 ^ 16) ≡ (x1 * 2 ^ 8 + x2) * 2 ^ 16 = xor_shifted x1 24 (x2 * 2 ^ 16) (omega arith) ∙ omega arith in
+      let three : bit_xor ((x1 * 2 ^ 8 + x2) * 2 ^ 16) (x3 * 2 ^ 8) ≡ ((x1 * 2 ^ 8 + x2) * 2 ^ 8 + x3) * 2 ^ 8 =
+      xor_shifted (x1 * 2 ^ 8 + x2) 16 (x3 * 2 ^ 8) (omega arith) ∙ omega arith in
+      let four : bit_xor (((x1 * 2 ^ 8 + x2) * 2 ^ 8 + x3) * 2 ^ 8) x4 ≡ joined x1 x2 x3 x4 =
+      xor_shifted ((x1 * 2 ^ 8 + x2) * 2 ^ 8 + x3) 8 x4 (omega arith) ∙ omega arith in
+      sym (ap (λ (n : ℕ). bit_xor (bit_xor n (x3 * 2 ^ 8)) x4) two ∙ ap (λ (n : ℕ). bit_xor n x4) three ∙ four)
 
   joined_lt : joined x1 x2 x3 x4 < 2 ^ 32
-  joined_lt =
-      subst (λ (n : ℕ). n < 2 ^ 32) (sym joined_exact)
-      (xor_lt 32 (bit_xor (bit_xor (x1 * 2 ^ 24) (x2 * 2 ^ 16)) (x3 * 2 ^ 8)) x4
-      (xor_lt 32 (bit_xor (x1 * 2 ^ 24) (x2 * 2 ^ 16)) (x3 * 2 ^ 8) (xor_lt 32 (x1 * 2 ^ 24) (x2 * 2 ^ 16) (omega arith) (omega arith)) (omega arith))
-      (omega arith))
+  joined_lt = omega arith
 
   register_four : (c : ℕ) → c < 2 ^ 32 → register 32 0x04C11DB7 c (x1 ∷ x2 ∷ x3 ∷ x4 ∷ []) ≡ shifts 32 0x04C11DB7 32 (bit_xor c (joined x1 x2 x3 x4))
   unfolding register byte_step

@@ -1,31 +1,64 @@
 #![tactic(auto)]
 // The check of a datagram (01, The check), four bytes at a time, and CRC-32/MPEG-2, a byte at a time.
 // `crc32` keeps a register of 64 bits, whose remainder is the check's: 32 shifts of it are four look-ups that do not wait for each other.
-ghost use Rattle.std.specs.Prelude.{◌≡◌, [], ◌∷◌, ◌+◌, ◌*◌, ◌%◌, ◌^◌, ◌≤◌, length, drop};
+ghost use Rattle.std.specs.Prelude.{◌≡◌, ℕ, [], ◌∷◌, ◌*◌, ◌%◌, ◌^◌, ◌<◌, length};
 ghost use Rattle.crc.specs.Check.{mpeg2, shift, shifts, byte_step, register, covered, check_of, check32};
 ghost use Rattle.crc.specs.Wide.{wide_polynomial, remainder};
 
 const START: u32 = 0xFFFFFFFF;
 
-fn one_shift(c: u32) -> u32
-    ensures { result ≡ shift 32 0x04C11DB7 c }
-{
-    if c < 0x80000000 {
-        c << 1
-    } else {
-        (c << 1) ^ 0x04C11DB7
+// A register of the check, and what a shift makes of it.
+// Each type has its own `one_shift`: the operations of one for both, as methods of the trait, would be no shorter.
+trait Register: Copy {
+    ghost width: { ℕ };
+
+    ghost polynomial: { ℕ };
+
+    ghost number: { Self → ℕ };
+
+    fn one_shift(self) -> Self
+        ensures { number result ≡ shift width polynomial (number self) };
+}
+
+impl Register for u32 {
+    ghost width = { 32 };
+
+    ghost polynomial = { 0x04C11DB7 };
+
+    ghost number = { λ n. n };
+
+    fn one_shift(self) -> u32 {
+        if self < 0x80000000 {
+            self << 1
+        } else {
+            (self << 1) ^ 0x04C11DB7
+        }
+    }
+}
+
+impl Register for u64 {
+    ghost width = { 64 };
+
+    ghost polynomial = { wide_polynomial };
+
+    ghost number = { λ n. n };
+
+    fn one_shift(self) -> u64 {
+        if self < 0x8000000000000000 {
+            self << 1
+        } else {
+            (self << 1) ^ 0x490D678D
+        }
     }
 }
 
 // The compiler makes a look-up in a table of this loop.
-fn eight_shifts(c: u32) -> u32
-    ensures { result ≡ shifts 32 0x04C11DB7 8 c }
+fn eight_shifts<R: Register>(c: R) -> R
+    ensures { R.number result ≡ shifts R.width R.polynomial 8 (R.number c) }
 {
     let mut x = c;
-    let mut count: u32 = 0;
-    while count < 8 {
-        x = one_shift(x);
-        count += 1;
+    for _ in 0..8u32 {
+        x = x.one_shift();
     }
     x
 }
@@ -41,42 +74,17 @@ pub fn crc32_mpeg2(s: &[u8]) -> u32
     ensures { result ≡ check_of mpeg2 s.now }
 {
     let mut check = START;
-    let mut i: usize = 0;
-    while i < s.len() {
-        check = byte_step(check, s[i]);
-        i += 1;
+    for &byte in s {
+        check = byte_step(check, byte);
     }
     check
-}
-
-fn wide_shift(c: u64) -> u64
-    ensures { result ≡ shift 64 wide_polynomial c }
-{
-    if c < 0x8000000000000000 {
-        c << 1
-    } else {
-        (c << 1) ^ 0x490D678D
-    }
-}
-
-// The compiler makes a look-up in a table of this loop.
-fn eight_wide_shifts(c: u64) -> u64
-    ensures { result ≡ shifts 64 wide_polynomial 8 c }
-{
-    let mut x = c;
-    let mut count: u32 = 0;
-    while count < 8 {
-        x = wide_shift(x);
-        count += 1;
-    }
-    x
 }
 
 // The eight shifts of the lowest byte of c, put at the top.
 fn lowest_byte(c: u64) -> u64
     ensures { result ≡ shifts 64 wide_polynomial 8 (c % 2 ^ 8 * 2 ^ 56) }
 {
-    eight_wide_shifts(c << 56)
+    eight_shifts(c << 56)
 }
 
 fn word_shifts(c: u64) -> u64
@@ -91,8 +99,7 @@ fn word_shifts(c: u64) -> u64
 fn word_step(c: u64, first: u8, second: u8, third: u8, fourth: u8) -> u64
     ensures { remainder result ≡ register 32 0x04C11DB7 (remainder c) (first ∷ second ∷ third ∷ fourth ∷ []) }
 {
-    let upper = ((first as u64) << 24) ^ ((second as u64) << 16);
-    word_shifts(c ^ (upper ^ ((third as u64) << 8) ^ (fourth as u64)))
+    word_shifts(c ^ u32::from_be_bytes([first, second, third, fourth]) as u64)
 }
 
 fn remainder_of(c: u64) -> u32
@@ -102,30 +109,27 @@ fn remainder_of(c: u64) -> u32
     eight_shifts(eight_shifts(halfway)) ^ ((c % 0x100000000) as u32)
 }
 
-// The register after the bytes from i on, of which fewer than four are left, and the zero bytes.
-fn last_step(c: u64, s: &[u8], i: usize) -> u64
-    requires { (i % 4 ≡ 0) × (length s.now ≤ i + 3) }
-    ensures { remainder result ≡ register 32 0x04C11DB7 (remainder c) (drop i (covered 4 s.now)) }
+// The register after the last bytes, fewer than four, and the zero bytes.
+fn last_step(c: u64, rest: &[u8]) -> u64
+    requires { length rest.now < 4 }
+    ensures { remainder result ≡ register 32 0x04C11DB7 (remainder c) (covered 4 rest.now) }
 {
-    if i < s.len() {
-        let first = s[i];
-        let second = integers::byte_or_zero(s, i + 1);
-        let third = integers::byte_or_zero(s, i + 2);
-        word_step(c, first, second, third, 0)
-    } else {
-        c
+    if rest.is_empty() {
+        return c;
     }
+    let second = integers::byte_or_zero(rest, 1);
+    let third = integers::byte_or_zero(rest, 2);
+    word_step(c, rest[0], second, third, 0)
 }
 
 // The check of the bytes that stand before it in a datagram (01, The check).
 pub fn crc32(s: &[u8]) -> u32
     ensures { result ≡ check32 s.now }
 {
+    let (words, rest) = s.as_chunks::<4>();
     let mut check = START as u64;
-    let mut i = 0;
-    while i + 3 < s.len() {
-        check = word_step(check, s[i], s[i + 1], s[i + 2], s[i + 3]);
-        i += 4;
+    for &[first, second, third, fourth] in words {
+        check = word_step(check, first, second, third, fourth);
     }
-    remainder_of(last_step(check, s, i))
+    remainder_of(last_step(check, rest))
 }

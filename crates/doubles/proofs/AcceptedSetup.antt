@@ -10,15 +10,15 @@ use Rattle.setup.specs.Setup.{ruling_on}
 use Rattle.setup.specs.Sensor.{sensor_of}
 use Rattle.setup.specs.declared.Setup.{Setup}
 use Rattle.setup.specs.declared.Sensor.{Sensor}
-use Rattle.setup.specs.declared.Ruling.TheVariants.{Accepted}
 use Rattle.setup.proofs.Sensors.{sensor_unit, sensor_shift, sensor_shift_limit}
 use Rattle.motion.specs.Totals.{unit_in}
 use Rattle.motion.specs.declared.Axis.{Axis}
 use Rattle.doubles.specs.declared.Values.{Values}
 use Rattle.doubles.specs.Doubles.{negative, quotient, plus_zero, known_shift, unit_number_in, doubles_in, shift_in, group_values, values_for, total_double}
 use Rattle.doubles.proofs.Doubles.{shift_known, reading_exact, total_exact, values_unit, values_double, values_at_lem}
+use Rattle.std.specs.Prelude.{Ok}
 
-module _ (u : Setup) (a : ruling_on u ≡ Accepted) where
+module _ (u : Setup) (a : ruling_on u ≡ Ok tt) where
   abbrev s : Sensor
   s = sensor_of u
 

@@ -9,7 +9,7 @@ use native.Mathlib.Nat.{eq-or-lt_of_le, lt_of_lt_of_le, mul-one, one-mul, zero-m
 use native.Mathlib.Omega.{arith}
 use borrow.Author.Tests.{leb-true, le-leb}
 use lib.Dec.{T, leb, eqb, eqb-suc-zero, le→leb, lt→ltb, lit<}
-use lib.Pow.{pow_pos, pow_mono, pow-lt, pow-add, shl_lt, shl_exact}
+use lib.Pow.{pow_pos, pow_mono, pow-lt, pow-add, shl_lt}
 use lib.IntN.{ℤ, pos, negsuc, nat_abs}
 use lib.ListN.{get_or}
 use lib.Ieee.{Float, nan, inf, fin, Format, binary64, prec, low, up, down, hid, top, size, to_bits, unlike, round, div, of_int, in_float as cast_in_float, of_bits, fits}
@@ -23,12 +23,12 @@ use Rattle.integers.proofs.Ranges.{le_within}
 use Rattle.setup.specs.Setup.{unit_number}
 use Rattle.setup.specs.declared.Unit.{Unit}
 use Rattle.setup.specs.declared.Unit.TheVariants.{Instantaneous, Incremental, Average, Integrated}
-use Rattle.setup.specs.declared.Units.{Units}
-use Rattle.setup.specs.declared.Shifts.{Shifts}
+use Rattle.setup.specs.Sensor.{Units}
+use Rattle.setup.specs.Sensor.{Shifts}
 use Rattle.setup.proofs.Refusals.{each}
 use Rattle.motion.specs.Totals.{axis_at}
 use Rattle.motion.specs.declared.Axis.{Axis}
-use Rattle.motion.specs.declared.Axes.{Axes}
+use Rattle.motion.specs.Totals.{Axes}
 use Rattle.motion.proofs.NineAxes.{each_axis}
 use Rattle.doubles.specs.Doubles.{negative, quotient, plus_zero, known_shift, unit_number_in, doubles_in, values_in, values_of, shift_in, values_at}
 use Rattle.doubles.specs.Doubles.{group_values, values_for, total_double, total_doubles, double_at}
@@ -81,10 +81,6 @@ in_float (negsuc n) h = lt→ltb n (2 ^ 53) h
 
 small_power : (k : ℕ) → k ≤ 31 → 2 ^ k ≤ 2 ^ 53
 small_power k h = let l : k ≤ 53 = omega arith in pow_mono l
-
--- 1 shifted by k
-pub shifted : (k : ℕ) → k ≤ 31 → (1 * 2 ^ k) % 2 ^ 32 ≡ 2 ^ k
-shifted k h = shl_exact 1 k 32 (lit< tt) (omega arith) ∙ one-mul (2 ^ k)
 
 pub computed : (n : ℤ) (k : ℕ) → nat_abs n ≤ 2 ^ 53 → k ≤ 31 → div binary64 (of_int binary64 n) (of_int binary64 (pos (2 ^ k))) ≡ quotient n k
 unfolding quotient

@@ -3,19 +3,15 @@ use Rattle.std.specs.Prelude.{ℕ, ◌^◌, Bool, true, false, cond, List, [], �
 use Rattle.std.specs.Float.{fin, binary64}
 use Rattle.std.specs.Float.Ieee.{round}
 use Rattle.integers.specs.Ranges.{within}
-use Rattle.setup.specs.Sensor.{shifts_in}
+use Rattle.groups.specs.declared.PerAxis.{PerAxis}
+use Rattle.groups.specs.declared.PerGroup.{PerGroup}
+use Rattle.setup.specs.Sensor.{Units, Shifts, shifts_in}
 use Rattle.setup.specs.declared.Unit as unit
 use Rattle.setup.specs.declared.Unit.{Unit}
-use Rattle.setup.specs.declared.Units.{Units}
-use Rattle.setup.specs.declared.Shifts.{Shifts}
-use Rattle.motion.specs.Totals.{greatest_total, unit_in, one_of, axis_at}
+use Rattle.motion.specs.Totals.{greatest_total, unit_in, one_of, axis_at, GroupAxes, Axes}
 use Rattle.motion.specs.declared.Axis.{Axis}
-use Rattle.motion.specs.declared.GroupAxes.{GroupAxes}
-use Rattle.motion.specs.declared.Axes.{Axes}
 use Rattle.doubles.specs.declared.Values.{Values}
 use Rattle.doubles.specs.declared.Values.TheVariants.{Instantaneous, Incremental, Average, Integrated}
-use Rattle.doubles.specs.declared.GroupValues.{GroupValues}
-use Rattle.doubles.specs.declared.GroupDoubles.{GroupDoubles}
 use Rattle.doubles.specs.declared.TotalDoubles.{TotalDoubles}
 
 abbrev pub negative : ℤ → Bool
@@ -65,6 +61,9 @@ abbrev pub shift_in : Shifts → ℕ → ℕ
 shift_in s group = get_or (shifts_in s) group 0
 
 -- the values of the three groups
+abbrev pub GroupValues : Type 0
+GroupValues = PerGroup Values
+
 abbrev pub values_at : Units → Shifts → List (List ℤ) → ℕ → Values
 values_at units shifts readings group = values_of (unit_in units group) (shift_in shifts group) (get_or readings group [])
 
@@ -84,6 +83,9 @@ values_for v group = one_of v.gyro v.accelerometer v.inclinometer group
 -- total / 2 ^ shift; +0 for a total beyond the greatest
 unfoldable pub total_double : Axis → ℕ → Float
 total_double a shift = cond (within greatest_total a.total) (quotient a.total (known_shift shift)) plus_zero
+
+abbrev pub GroupDoubles : Type 0
+GroupDoubles = PerAxis Float
 
 unfoldable pub group_doubles : GroupAxes → ℕ → GroupDoubles
 group_doubles g shift = record { x = total_double g.x shift; y = total_double g.y shift; z = total_double g.z shift }

@@ -6,11 +6,12 @@ ghost use Rattle.std.specs.Float.Ieee.{of_int};
 ghost use Rattle.doubles.specs.Doubles.{quotient, known_shift, values_in, values_of, group_values};
 ghost use Rattle.doubles.specs.Doubles.{total_double, group_doubles, total_doubles};
 
+use groups::{PerAxis, PerGroup};
 use motion::{Axes, Axis, GroupAxes};
 use setup::{Shifts, Unit, Units};
 
-// The three values of a group, X, Y and Z, by its unit.
-#[derive(Clone, Copy)]
+// The three values of a group, X, Y and Z, by its unit. Each case has them, since 01 asks for four cases of three doubles (its last section).
+#[derive(Clone, Copy, Debug, PartialEq)]
 pub enum Values {
     Instantaneous(f64, f64, f64),
     Incremental(f64, f64, f64),
@@ -18,15 +19,10 @@ pub enum Values {
     Integrated(f64, f64, f64),
 }
 
-#[derive(Clone, Copy)]
-pub struct GroupValues {
-    pub gyro: Values,
-    pub accelerometer: Values,
-    pub inclinometer: Values,
-}
+pub type GroupValues = PerGroup<Values>;
 
-// The totals of one datagram as doubles.
-#[derive(Clone, Copy)]
+// The totals of one datagram as doubles. Flat, since a struct of doubles alone is asked for (01, Totals).
+#[derive(Clone, Copy, Debug, PartialEq)]
 pub struct TotalDoubles {
     pub gyro_x: f64,
     pub gyro_y: f64,
@@ -40,46 +36,27 @@ pub struct TotalDoubles {
 }
 
 // Those of one group.
-#[derive(Clone, Copy)]
-struct GroupDoubles {
-    x: f64,
-    y: f64,
-    z: f64,
+type GroupDoubles = PerAxis<f64>;
+
+// 2^shift as a double; a shift above 31 counts as 0.
+#[tactic(auto, unfolding(crate::specs::Doubles::known_shift))]
+fn power(shift: u16) -> f64
+    ensures { result ≡ of_int binary64 (pos (2 ^ known_shift shift)) }
+{
+    let known = if shift > 31 { 0 } else { shift };
+    (1u32 << known) as f64
 }
 
-// A shift, 0 for one above 31.
-fn known_shift(shift: u16) -> u32
-    ensures { result ≡ known_shift shift }
+// n / 2^shift, exactly.
+fn over_power(n: i64, shift: u16) -> f64
+    requires { nat_abs n ≤ 2 ^ 53 }
+    ensures { result ≡ quotient n (known_shift shift) }
 {
-    if shift > 31 { 0 } else { shift as u32 }
-}
-
-// 2^shift as a double.
-fn power(shift: u32) -> f64
-    requires { shift ≤ 31 }
-    ensures { result ≡ of_int binary64 (pos (2 ^ shift)) }
-{
-    (1u32 << shift) as f64
-}
-
-// reading / 2^shift, exactly.
-fn reading_double(reading: i32, shift: u32) -> f64
-    requires { shift ≤ 31 }
-    ensures { result ≡ quotient reading shift }
-{
-    (reading as f64) / power(shift)
-}
-
-// The same of a total.
-fn steps_double(steps: i64, shift: u32) -> f64
-    requires steps_small { nat_abs steps ≤ 2 ^ 53 }
-    requires shift_small { shift ≤ 31 }
-    ensures { result ≡ quotient steps shift }
-{
-    (steps as f64) / power(shift)
+    (n as f64) / power(shift)
 }
 
 // Three doubles in a unit.
+#[tactic(auto, unfolding(crate::specs::Doubles::values_in))]
 fn values_in(unit: Unit, x: f64, y: f64, z: f64) -> Values
     ensures { result ≡ values_in unit x y z }
 {
@@ -92,27 +69,24 @@ fn values_in(unit: Unit, x: f64, y: f64, z: f64) -> Values
 }
 
 // The values of one group.
+#[tactic(auto, unfolding(crate::specs::Doubles::values_of))]
 fn values_of(unit: Unit, shift: u16, readings: [i32; 3]) -> Values
     ensures { result ≡ values_of unit shift readings }
 {
-    let k = known_shift(shift);
-    let x = reading_double(readings[0], k);
-    let y = reading_double(readings[1], k);
-    let z = reading_double(readings[2], k);
-    values_in(unit, x, y, z)
+    let doubles = PerAxis::of(readings).map(|reading| over_power(reading as i64, shift));
+    values_in(unit, doubles.x, doubles.y, doubles.z)
 }
 
 // The values of the three groups, each double exactly reading / 2^shift (01, Status, doubles, gaps).
+#[tactic(auto, unfolding(crate::specs::Doubles::group_values))]
 pub fn group_values(units: Units, shifts: Shifts, readings: [[i32; 3]; 3]) -> GroupValues
     ensures { result ≡ group_values units shifts readings }
 {
-    let gyro = units.gyro;
-    let accelerometer = units.accelerometer;
-    let inclinometer = units.inclinometer;
-    GroupValues {
-        gyro: values_of(gyro, shifts.gyro, readings[0]),
-        accelerometer: values_of(accelerometer, shifts.accelerometer, readings[1]),
-        inclinometer: values_of(inclinometer, shifts.inclinometer, readings[2]),
+    // written out, since by zip and map_with the check doesn't find the proof
+    PerGroup {
+        gyro: values_of(units.gyro, shifts.gyro, readings[0]),
+        accelerometer: values_of(units.accelerometer, shifts.accelerometer, readings[1]),
+        inclinometer: values_of(units.inclinometer, shifts.inclinometer, readings[2]),
     }
 }
 
@@ -121,46 +95,36 @@ fn total_double(axis: Axis, shift: u16) -> f64
     ensures { result ≡ total_double axis shift }
 {
     let total = axis.total;
-    let k = known_shift(shift);
     if motion::fits_total(total) {
-        return steps_double(total, k);
+        over_power(total, shift)
+    } else {
+        0.0
     }
-    0.0
 }
 
 // The totals of one group as doubles.
+#[tactic(auto, unfolding(crate::specs::Doubles::group_doubles))]
 fn group_doubles(axes: GroupAxes, shift: u16) -> GroupDoubles
     ensures { result ≡ group_doubles axes shift }
 {
-    let x = axes.x;
-    let y = axes.y;
-    let z = axes.z;
-    GroupDoubles {
-        x: total_double(x, shift),
-        y: total_double(y, shift),
-        z: total_double(z, shift),
-    }
+    axes.map(|axis| total_double(axis, shift))
 }
 
 // The totals of all axes as doubles (01, Totals).
+#[tactic(auto, unfolding(crate::specs::Doubles::total_doubles, crate::specs::Doubles::group_doubles))]
 pub fn total_doubles(shifts: Shifts, axes: Axes) -> TotalDoubles
     ensures { result ≡ total_doubles shifts axes }
 {
-    let gyro = axes.gyro;
-    let accelerometer = axes.accelerometer;
-    let inclinometer = axes.inclinometer;
-    let g = group_doubles(gyro, shifts.gyro);
-    let a = group_doubles(accelerometer, shifts.accelerometer);
-    let i = group_doubles(inclinometer, shifts.inclinometer);
+    let doubles = axes.map_with(shifts, group_doubles);
     TotalDoubles {
-        gyro_x: g.x,
-        gyro_y: g.y,
-        gyro_z: g.z,
-        accelerometer_x: a.x,
-        accelerometer_y: a.y,
-        accelerometer_z: a.z,
-        inclinometer_x: i.x,
-        inclinometer_y: i.y,
-        inclinometer_z: i.z,
+        gyro_x: doubles.gyro.x,
+        gyro_y: doubles.gyro.y,
+        gyro_z: doubles.gyro.z,
+        accelerometer_x: doubles.accelerometer.x,
+        accelerometer_y: doubles.accelerometer.y,
+        accelerometer_z: doubles.accelerometer.z,
+        inclinometer_x: doubles.inclinometer.x,
+        inclinometer_y: doubles.inclinometer.y,
+        inclinometer_z: doubles.inclinometer.z,
     }
 }

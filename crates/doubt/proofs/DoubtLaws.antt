@@ -12,9 +12,9 @@ use Rattle.gaps.specs.Gaps.{samples, elapsed}
 use Rattle.gaps.specs.declared.Samples.{Samples}
 use Rattle.motion.specs.Status.{fit, unfit}
 use Rattle.motion.specs.Totals.{axis_in}
-use Rattle.motion.specs.declared.GroupAxes.{GroupAxes}
+use Rattle.motion.specs.Totals.{GroupAxes}
 use Rattle.doubt.specs.declared.AxisDoubt.{AxisDoubt}
-use Rattle.doubt.specs.declared.GyroDoubt.{GyroDoubt}
+use Rattle.doubt.specs.Doubt.{GyroDoubt}
 use Rattle.doubt.specs.DoubtRules.{DoubtRules}
 use Rattle.doubt.specs.Doubt.{added, greatest_sum, sum_with, most_samples, marks, no_doubt, fit_doubt, unfit_doubt, doubt_step, kept_doubt}
 use Rattle.doubt.specs.Doubt.{no_gyro_doubt, doubt_at, gyro_step, marks_of, mark_at}

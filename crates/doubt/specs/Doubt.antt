@@ -1,13 +1,11 @@
 -- 02, 2.5: what is kept of a gyro axis beside its total, and what a datagram does to it. Sums count internal samples.
 use Rattle.std.specs.Prelude.{ℕ, ◌+◌, min, Bool, false, ◌&&◌, ◌||◌, cond, eqb, ltb}
+use Rattle.groups.specs.declared.PerAxis.{PerAxis}
 use Rattle.gaps.specs.Gaps.{samples, elapsed}
 use Rattle.gaps.specs.declared.Samples.{Samples}
 use Rattle.motion.specs.Status.{fit}
-use Rattle.motion.specs.Totals.{one_of}
-use Rattle.motion.specs.declared.GroupAxes.{GroupAxes}
+use Rattle.motion.specs.Totals.{GroupAxes, one_of}
 use Rattle.doubt.specs.declared.AxisDoubt.{AxisDoubt}
-use Rattle.doubt.specs.declared.GyroDoubt.{GyroDoubt}
-use Rattle.doubt.specs.declared.GyroMarks.{GyroMarks}
 
 -- ---- the sum
 
@@ -56,6 +54,9 @@ kept_doubt rate kept begun fit a d = cond kept (doubt_step rate begun fit a d) a
 
 -- ---- the gyro's axes, X 0, Y 1, Z 2
 
+abbrev pub GyroDoubt : Type 0
+GyroDoubt = PerAxis AxisDoubt
+
 abbrev pub no_gyro_doubt : GyroDoubt
 no_gyro_doubt = record { x = no_doubt; y = no_doubt; z = no_doubt }
 
@@ -72,6 +73,9 @@ gyro_step rate kept axes g status d =
     }
 
 -- ---- what comes back: the mark of each
+
+abbrev pub GyroMarks : Type 0
+GyroMarks = PerAxis Bool
 
 unfoldable pub marks_of : GyroDoubt → GyroMarks
 marks_of g = record { x = g.x.marked; y = g.y.marked; z = g.z.marked }

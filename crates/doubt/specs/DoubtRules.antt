@@ -6,7 +6,7 @@ use Rattle.motion.specs.declared.Axis.{Axis}
 use Rattle.doubt.specs.Doubt.{added, sum_with, no_doubt, doubt_step, gyro_step, marks_of}
 use Rattle.doubt.specs.Slipped.{greatest_turn}
 use Rattle.doubt.specs.declared.AxisDoubt.{AxisDoubt}
-use Rattle.doubt.specs.declared.GyroDoubt.{GyroDoubt}
+use Rattle.doubt.specs.Doubt.{GyroDoubt}
 
 pub record DoubtRules : Type 0 where
   -- a datagram adds its d, the internal samples since the datagram before; a first one adds none

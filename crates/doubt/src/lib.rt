@@ -5,6 +5,7 @@ ghost use Rattle.setup.specs.Setup.{hertz};
 ghost use Rattle.doubt.specs.Doubt.{added, greatest_sum, sum_with, marks, fit_doubt, unfit_doubt, doubt_step, no_gyro_doubt, gyro_step, marks_of};
 
 use gaps::Samples;
+use groups::PerAxis;
 use motion::GroupAxes;
 use setup::Rate;
 
@@ -15,40 +16,25 @@ const GREATEST_SUM: u64 = 65535;
 const MOST_SAMPLES: u32 = 16;
 
 // What is kept of a gyro axis beside its total: the internal samples since its last fit datagram, and whether its total is doubtful.
-#[derive(Clone, Copy)]
+#[derive(Clone, Copy, Debug, PartialEq, Eq)]
 pub struct AxisDoubt {
     pub samples: Samples,
     pub marked: bool,
 }
 
-#[derive(Clone, Copy)]
-pub struct GyroDoubt {
-    pub x: AxisDoubt,
-    pub y: AxisDoubt,
-    pub z: AxisDoubt,
-}
+pub type GyroDoubt = PerAxis<AxisDoubt>;
 
 // Whether the total of each gyro axis is doubtful, as it comes back with a datagram.
-#[derive(Clone, Copy)]
-pub struct GyroMarks {
-    pub x: bool,
-    pub y: bool,
-    pub z: bool,
-}
+pub type GyroMarks = PerAxis<bool>;
 
 // What is kept of axes to which no fit datagram came.
 pub fn no_doubt() -> GyroDoubt
     ensures { result ≡ no_gyro_doubt }
 {
-    let axis = AxisDoubt {
+    PerAxis::each(AxisDoubt {
         samples: Samples(0),
         marked: false,
-    };
-    GyroDoubt {
-        x: axis,
-        y: axis,
-        z: axis,
-    }
+    })
 }
 
 // The internal samples that a datagram adds: those since the one before, none for a first one.
@@ -83,14 +69,7 @@ fn sum_with(sum: Samples, d: Samples) -> Samples
 fn is_trigger(rate: Rate) -> bool
     ensures { result ≡ eqb (hertz rate) 0 }
 {
-    match rate {
-        Rate::ExternalTrigger => true,
-        Rate::Hertz125 => false,
-        Rate::Hertz250 => false,
-        Rate::Hertz500 => false,
-        Rate::Hertz1000 => false,
-        Rate::Hertz2000 => false,
-    }
+    rate == Rate::ExternalTrigger
 }
 
 // Whether a fit datagram behind an earlier one marks the total, of the sum with its own samples.
@@ -100,7 +79,7 @@ fn marks(rate: Rate, sum: Samples) -> bool
     (MOST_SAMPLES < sum.0) | is_trigger(rate)
 }
 
-// A fit datagram on an axis; `begun`: whether a fit one came before it.
+// A fit datagram on an axis; `begun`: whether a fit one came before it. It and d aren't kept with the sum, so they stay arguments.
 fn fit_doubt(rate: Rate, begun: bool, doubt: AxisDoubt, d: Samples) -> AxisDoubt
     ensures { result ≡ fit_doubt (hertz rate) begun doubt d }
 {
@@ -141,6 +120,7 @@ fn axis_step(rate: Rate, begun: bool, fit: bool, doubt: AxisDoubt, d: Samples) -
 
 // One datagram on the gyro's axes, of its status byte and its counter; `kept`: whether the gyro keeps totals, `axes`: its axes before the datagram,
 // `first`: whether it counts as a first one, `previous`: the counter of the one before (02, 2.5).
+#[tactic(auto, unfolding(crate::specs::Doubt::gyro_step, crate::specs::Doubt::kept_doubt))]
 pub fn step(
     rate: Rate,
     kept: bool,
@@ -157,27 +137,16 @@ pub fn step(
         return doubt;
     }
     let d = added(first, previous, counter);
-    let fit = motion::fit_axes(status);
-    let x = doubt.x;
-    let y = doubt.y;
-    let z = doubt.z;
-    let x_begun = axes.x.begun;
-    let y_begun = axes.y.begun;
-    let z_begun = axes.z.begun;
-    GyroDoubt {
-        x: axis_step(rate, x_begun, fit[0], x, d),
-        y: axis_step(rate, y_begun, fit[1], y, d),
-        z: axis_step(rate, z_begun, fit[2], z, d),
-    }
+    let seen = axes.zip(PerAxis::of(motion::fit_axes(status)));
+    doubt.map_with(seen, |doubt, (axis, fit)| {
+        axis_step(rate, axis.begun, fit, doubt, d)
+    })
 }
 
 // The marks, as they come back with a datagram (02, 2.5).
+#[tactic(auto, unfolding(crate::specs::Doubt::marks_of))]
 pub fn marks_of(doubt: GyroDoubt) -> GyroMarks
     ensures { result ≡ marks_of doubt }
 {
-    GyroMarks {
-        x: doubt.x.marked,
-        y: doubt.y.marked,
-        z: doubt.z.marked,
-    }
+    doubt.map(|axis| axis.marked)
 }

@@ -6,7 +6,6 @@ use mathlib.Core.Bool.{Bool, true}
 use mathlib.Core.List.{List, [], ◌∷◌, map}
 use Rattle.setup.specs.Setup.{ruling_on}
 use Rattle.setup.specs.declared.Setup.{Setup}
-use Rattle.setup.specs.declared.Ruling.TheVariants.{Accepted}
 use Rattle.scan.specs.Calls as calls
 use Rattle.scan.specs.Calls.{Fed, Report, refusing}
 use Rattle.scan.specs.Carry.{carrying, feed_session, SessionRun}
@@ -23,6 +22,8 @@ use Rattle.search.proofs.Datagrams.{lawful}
 use Rattle.feeding.proofs.Refinement.{SafeOf, state_safe, state_of_lem, session_sound}
 use Rattle.feeding.proofs.HistoryInvariant.{history_invariant}
 use Rattle.feeding.proofs.CallParts.{fed_scan}
+use Rattle.std.specs.Prelude.{Ok}
+use Rattle.refusals.specs.declared.Refusal.{Refusal}
 
 -- the scan's call on a state of a setup
 abbrev pub state_call : Setup → SessionState → List ℕ → Fed SessionState Datagram
@@ -37,7 +38,7 @@ on_state s e p =
     fed_scan s p
     ∙ ap (λ (b : Bool). reply_of s (carrying (consumer u) (state_of s) (calls.feed (rules_of u) b (state_of s).scan p))) (e ∙ sym f)
 
-module _ (u : Setup) (ok : ruling_on u ≡ Accepted) where
+module _ (u : Setup) (ok : ruling_on u ≡ Ok tt) where
   -- the same on the session of a safe state
   pub agrees : (t : SessionState) → SafeOf u t → (p : List ℕ) → feed_of (session_of u t) p ≡ reply_of (session_of u t) (state_call u t p)
   agrees t Z p =
@@ -58,7 +59,7 @@ module _ (u : Setup) (ok : ruling_on u ≡ Accepted) where
 
   by_answer :
       (t : SessionState) → SafeOf u t → (c : Fed SessionState Datagram) → SafeOf u c.next
-      → ((n : ℕ) → c.answer ≡ calls.Answer.refused n → c ≡ refusing n t)
+      → ((n : Refusal) → c.answer ≡ calls.Answer.refused n → c ≡ refusing n t)
       → Simulates same Like c (call_by (reply_of (session_of u t) c))
   by_answer t Z c Y stays = go c.answer refl
     where

@@ -13,7 +13,6 @@ use Rattle.integers.proofs.Buffers.{take_map, get_or_map}
 use Rattle.setup.specs.Setup.{ruling_on}
 use Rattle.setup.specs.Sensor.{sensor_of}
 use Rattle.setup.specs.declared.Setup.{Setup}
-use Rattle.setup.specs.declared.Ruling.TheVariants.{Accepted}
 use Rattle.wire.specs.Fields.{fields_of}
 use Rattle.motion.specs.Totals.{groups_kept, no_axis, Sighting, kept_step, keeps, axis_at, none, total_of, total_at, after}
 use Rattle.motion.specs.declared.Axis.{Axis}
@@ -29,6 +28,7 @@ use Rattle.feeding.specs.declared.Datagram.{Datagram}
 use Rattle.feeding.specs.Feed.{datagram_with, history_after, tell, consumer, no_datagram}
 use Rattle.feeding.specs.Promises.{answers_for, sighting, sightings}
 use Rattle.feeding.proofs.BySetup.{after_datagram}
+use Rattle.std.specs.Prelude.{Ok}
 
 -- by 01's rule for one axis, up to 2 ^ 30 datagrams
 pub after_ruled :
@@ -47,7 +47,7 @@ module _ (u : Setup) (group axis : ℕ) where
   pub sightings_length : (ds : List (List ℕ)) → length (sightings u group axis ds) ≡ length ds
   sightings_length ds = length-map ds (sighting u group axis)
 
-  module _ (ok : ruling_on u ≡ Accepted) (h : group < 3) (k : axis < 3) where
+  module _ (ok : ruling_on u ≡ Ok tt) (h : group < 3) (k : axis < 3) where
     -- the axis behind a datagram
     pub axis_next :
         (first : Bool) (x : History) (d : List ℕ)

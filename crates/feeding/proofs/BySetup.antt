@@ -7,7 +7,6 @@ use Rattle.setup.specs.Setup.{ruling_on}
 use Rattle.setup.specs.Sensor.{sensor_of}
 use Rattle.setup.specs.declared.Setup.{Setup}
 use Rattle.setup.specs.declared.Sensor.{Sensor}
-use Rattle.setup.specs.declared.Ruling.TheVariants.{Accepted}
 use Rattle.setup.proofs.Sensors.{sensor_rate}
 use Rattle.wire.specs.Fields.{Contents, fields_of}
 use Rattle.wire.proofs.FieldBytes.{sensor_fields}
@@ -20,8 +19,9 @@ use Rattle.search.proofs.Sensors.{verdict_sensor}
 use Rattle.history.specs.History.{history_next}
 use Rattle.history.specs.declared.History.{History}
 use Rattle.feeding.specs.Feed.{datagram_with, history_after, tell}
+use Rattle.std.specs.Prelude.{Ok}
 
-module _ (u : Setup) (ok : ruling_on u ≡ Accepted) where
+module _ (u : Setup) (ok : ruling_on u ≡ Ok tt) where
   -- the scan by a setup's sensor
   pub sensor_verdict : (s : Sensor) → s ≡ sensor_of u → verdict_in s ≡ verdict_of u
   sensor_verdict s e = ap verdict_in e ∙ verdict_sensor u ok

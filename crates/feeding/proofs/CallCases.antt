@@ -11,7 +11,6 @@ use lib.Seq.{length-take-le, drop-drop}
 use Rattle.integers.proofs.Buffers.{padded_front}
 use Rattle.setup.specs.Setup.{ruling_on, length_of}
 use Rattle.setup.specs.declared.Setup.{Setup}
-use Rattle.setup.specs.declared.Ruling.TheVariants.{Accepted}
 use Rattle.setup.proofs.Refusals.{accepted_length}
 use Rattle.wire.specs.Fields.{Contents}
 use Rattle.wire.proofs.FieldBytes.{sensor_fields}
@@ -49,6 +48,7 @@ use Rattle.feeding.proofs.EachCall.{call_kept}
 use Rattle.feeding.proofs.DatagramLaws.{contained_told, total_told, exact_told, mark_told}
 use Rattle.feeding.proofs.AxisAt.{axis_next}
 use Rattle.feeding.proofs.DoubtAt.{doubt_next}
+use Rattle.std.specs.Prelude.{Ok}
 
 -- a session has so few datagrams that no total passes 2 ^ 53
 few_totals : (s : Session) → PassesTen s → 18 ≤ length_of s.setup → (group axis : ℕ) → group < 3 → axis < 3 → nat_abs (axis_at s.history.axes group axis).total ≤ 2 ^ 53
@@ -78,7 +78,7 @@ module _ (s : Session) (e : is_sound s ≡ true) (p : List ℕ) where
   abbrev u : Setup
   u = s.setup
 
-  ok : ruling_on u ≡ Accepted
+  ok : ruling_on u ≡ Ok tt
   ok = (sound_facts s e).accepted
 
   least : 18 ≤ length_of u

@@ -10,8 +10,6 @@ use borrow.Author.Tests.{lt-ltb, le-ltb, lt-leb, le-leb}
 use lib.ListN.{length, get_or, replicate, length-append, length-replicate}
 use Rattle.setup.specs.Setup.{length_of}
 use Rattle.setup.specs.declared.Setup.{Setup}
-use Rattle.setup.specs.declared.Ruling.{Ruling}
-use Rattle.setup.specs.declared.Ruling.TheVariants.{Refused}
 use Rattle.setup.proofs.Refusals.{accepted_length}
 use Rattle.setup.specs.declared.Row.{Row}
 use Rattle.wire.specs.Fields.{contents_of, besides_readings}
@@ -29,6 +27,10 @@ use Rattle.admission.proofs.Soundness.{Facts, sound_facts}
 use Rattle.feeding.specs.Feed.{consumer, SessionState, state_of, session_of, reply_by, reply_of, refusal, feed_by, feed_of}
 use Rattle.feeding.proofs.Refinement.{count_held}
 use Rattle.feeding.specs.CallParts.{contents_with, reply_after, reply_at_once, Room}
+use Rattle.std.specs.Prelude.{Err}
+use Rattle.refusals.specs.Refusals.{Ruling}
+use Rattle.refusals.specs.declared.Refusal.{Refusal}
+use Rattle.refusals.specs.declared.Refusal.TheVariants.{SessionUnsound, PieceTooLong, StreamTooLong}
 
 -- ---- a datagram as it comes back
 
@@ -57,10 +59,6 @@ reply_found s p d e r n k f x y z = rw (x, y, z)
 pub reply_held :
     (s : Session) (p h e : List ℕ) (n : ℕ) (f : First) → f ≡ ends n h → e ≡ h → reply_after s (length p) (ends n e) ≡ reply_at_once s p f
 reply_held s p h e n f x y = rw (x, y)
-
--- room for bytes is room for fewer
-pub room_less : (s : Session) (n m : ℕ) → m ≤ n → Room s n → Room s m
-room_less s n m l r = record { datagrams = r.datagrams; passed = omega (arith, r.passed); fed = omega (arith, r.fed) }
 
 -- ---- what a sound session leaves
 
@@ -126,9 +124,9 @@ module _ (s : Session) (p : List ℕ) where
             le-leb (s.fed + length p) (limits_of s.setup).session k,
           )
 
-  pub fed_refused : {n : ℕ} → piece_ruling s (length p) ≡ Refused n → feed_of s p ≡ refusal s n
+  pub fed_refused : {e : Refusal} → piece_ruling s (length p) ≡ Err e → feed_of s p ≡ refusal s e
   unfolding feed_of
-  fed_refused e = ap (λ (r : Ruling). feed_by r s p) e
+  fed_refused q = ap (λ (r : Ruling). feed_by r s p) q
 
   pub fed_by :
       (ok : Bool) (c : Fed State (List ℕ)) → is_sound s ≡ ok → feed (rules_of s.setup) ok (state_of s).scan p ≡ c
@@ -138,13 +136,13 @@ module _ (s : Session) (p : List ℕ) where
       ∙ ap (λ (c : Fed State (List ℕ)). reply_of s (carrying (consumer s.setup) (state_of s) c))
       (ap (λ (b : Bool). feed (rules_of s.setup) b (state_of s).scan p) e ∙ q)
 
-  pub fed_unsound : is_sound s ≡ false → feed_of s p ≡ reply_by s (refused 10) 0 (state_of s)
-  fed_unsound e = fed_by false (refusing 10 (state_of s).scan) e (feed_unsound (rules_of s.setup) (state_of s).scan p)
+  pub fed_unsound : is_sound s ≡ false → feed_of s p ≡ reply_by s (refused SessionUnsound) 0 (state_of s)
+  fed_unsound e = fed_by false (refusing SessionUnsound (state_of s).scan) e (feed_unsound (rules_of s.setup) (state_of s).scan p)
 
-  pub fed_over : is_sound s ≡ true → (limits_of s.setup).piece < length p → feed_of s p ≡ reply_by s (refused 11) 0 (state_of s)
-  fed_over e h = fed_by true (refusing 11 (state_of s).scan) e (feed_over (rules_of s.setup) (state_of s).scan p h)
+  pub fed_over : is_sound s ≡ true → (limits_of s.setup).piece < length p → feed_of s p ≡ reply_by s (refused PieceTooLong) 0 (state_of s)
+  fed_over e h = fed_by true (refusing PieceTooLong (state_of s).scan) e (feed_over (rules_of s.setup) (state_of s).scan p h)
 
   pub fed_past :
       is_sound s ≡ true → length p ≤ (limits_of s.setup).piece → (limits_of s.setup).session < s.fed + length p
-      → feed_of s p ≡ reply_by s (refused 12) 0 (state_of s)
-  fed_past e h k = fed_by true (refusing 12 (state_of s).scan) e (feed_past (rules_of s.setup) (state_of s).scan p h k)
+      → feed_of s p ≡ reply_by s (refused StreamTooLong) 0 (state_of s)
+  fed_past e h k = fed_by true (refusing StreamTooLong (state_of s).scan) e (feed_past (rules_of s.setup) (state_of s).scan p h k)

@@ -10,7 +10,6 @@ use lib.ListN.{length, take, get_or}
 use lib.Seq.{length-take-le}
 use Rattle.setup.specs.Setup.{ruling_on}
 use Rattle.setup.specs.declared.Setup.{Setup}
-use Rattle.setup.specs.declared.Ruling.TheVariants.{Accepted}
 use Rattle.setup.specs.Sensor.{sensor_of}
 use Rattle.wire.specs.Fields.{Contents, contents_of, fields_of}
 use Rattle.wire.proofs.FieldBytes.{sensor_fields}
@@ -22,6 +21,7 @@ use Rattle.feeding.proofs.DatagramLaws.{contained_told}
 use Rattle.history.specs.History.{no_history, awaits_first, history_next}
 use Rattle.history.specs.declared.History.{History}
 use Rattle.feeding.specs.Promises.{answers_for, Contained}
+use Rattle.std.specs.Prelude.{Ok}
 
 pred_suc : (n : ℕ) → suc n - 1 ≡ n
 pred_suc n = omega arith
@@ -42,7 +42,7 @@ module _ (u : Setup) where
   carried_previous x (d ∷ ds) zero h = refl
   carried_previous x (d ∷ ds) (suc i) h = carried_previous (steps (consumer u) x d) ds i (omega arith)
 
-  module _ (ok : ruling_on u ≡ Accepted) (es : List (List ℕ)) (i : ℕ) (l : i < length es) where
+  module _ (ok : ruling_on u ≡ Ok tt) (es : List (List ℕ)) (i : ℕ) (l : i < length es) where
     abbrev before : History
     before = carried_after (consumer u) no_history (take i es)
 

@@ -13,7 +13,6 @@ use Rattle.integers.proofs.Folding.{abs_of_range}
 use Rattle.setup.specs.Setup.{ruling_on}
 use Rattle.setup.specs.Sensor.{sensor_of}
 use Rattle.setup.specs.declared.Setup.{Setup}
-use Rattle.setup.specs.declared.Ruling.TheVariants.{Accepted}
 use Rattle.setup.proofs.Refusals.{each}
 use Rattle.wire.specs.Fields.{fields_of}
 use Rattle.wire.proofs.FieldRanges.{fields_fit}
@@ -39,8 +38,9 @@ use Rattle.feeding.specs.declared.Datagram.{Datagram}
 use Rattle.feeding.specs.Feed.{datagram_with, tell, consumer, no_datagram}
 use Rattle.feeding.specs.Promises.{sighting, shift_of, TotalExact, Contained, Exact, Zeros}
 use Rattle.feeding.proofs.BySetup.{told_datagram}
+use Rattle.std.specs.Prelude.{Ok}
 
-module _ (u : Setup) (ok : ruling_on u ≡ Accepted) (h : History) (d : List ℕ) where
+module _ (u : Setup) (ok : ruling_on u ≡ Ok tt) (h : History) (d : List ℕ) where
   -- the answer, and the axes then
   abbrev answer : Datagram
   answer = tells (consumer u) h d

@@ -13,7 +13,6 @@ use Rattle.integers.specs.Bytes.{joined}
 use Rattle.integers.proofs.Buffers.{padded_front, get_or_map}
 use Rattle.setup.specs.Setup.{ruling_number, ruling_on, length_of}
 use Rattle.setup.specs.declared.Setup.{Setup}
-use Rattle.setup.specs.declared.Ruling.TheVariants.{Accepted}
 use Rattle.setup.proofs.Rules.{number_accepted, number_refused}
 use Rattle.wire.specs.Fields.{fields_of}
 use Rattle.motion.specs.Totals as totals
@@ -68,8 +67,9 @@ use Rattle.feeding.proofs.CallParts.{fed_unsound, fed_over, fed_past}
 use Rattle.feeding.proofs.ContainedAt.{carried_datagrams, contained_at}
 use Rattle.feeding.proofs.AxisAt.{after_ruled, axis_then, total_then, then_bound, sighting_at, sightings_length, independent}
 use Rattle.feeding.proofs.DoubtAt.{counted_sightings, doubt_kept, mark_unkept, mark_kept}
+use Rattle.std.specs.Prelude.{Ok}
 
-module _ (u : Setup) (ok : ruling_on u ≡ Accepted) where
+module _ (u : Setup) (ok : ruling_on u ≡ Ok tt) where
   -- the session that opening gives is that of the fresh state
   fresh_state : SessionState
   fresh_state = record { scan = calls.fresh; carried = no_history }
@@ -334,7 +334,7 @@ module _ (u : Setup) (ok : ruling_on u ≡ Accepted) where
         once = λ c c'. one_run c c';
         reported = λ c. (
           (delivered c).reported,
-          subst NoTen (sym (delivered c).reported) (reports_no_ten (limits_of u) (λ z. omega arith) 0 _),
+          subst NoTen (sym (delivered c).reported) (reports_no_ten (limits_of u) (λ z. let y : ◌≡◌ {A = ℕ} 0 1 = cc in omega arith) 0 _),
           fed_stream c,
         );
         streams = λ v h. let r = every_stream (limits_of u) (omega arith) v h in (r.0, r.2);
@@ -447,5 +447,5 @@ every_call =
       no_other = λ s p t h k n q. not_refused s p (ten_sound s t) h k n (told_refused (feed_of s p).datagram (feed_of s p).answer q);
       refused_opening =
           λ u e p.
-          fed_unsound (opening u).session p (ap (λ (o : Opened). is_sound o.session) (refused_opening u (number_refused u e)) ∙ zeros_unsound);
+          fed_unsound (opening u).session p (ap (λ (o : Opened). is_sound o.session) (refused_opening u (number_refused u e).1) ∙ zeros_unsound);
     }

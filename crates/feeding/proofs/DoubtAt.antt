@@ -13,7 +13,6 @@ use Rattle.integers.proofs.Buffers.{take_map}
 use Rattle.setup.specs.Setup.{ruling_on}
 use Rattle.setup.specs.Sensor.{sensor_of}
 use Rattle.setup.specs.declared.Setup.{Setup}
-use Rattle.setup.specs.declared.Ruling.TheVariants.{Accepted}
 use Rattle.wire.specs.Fields.{fields_of}
 use Rattle.motion.specs.Totals.{Sighting, groups_kept, keeps, kept_step, axis_at}
 use Rattle.motion.specs.declared.Axis.{Axis}
@@ -34,13 +33,14 @@ use Rattle.feeding.specs.Promises.{answers_for, sighting, sightings, counted_sig
 use Rattle.feeding.proofs.BySetup.{after_datagram}
 use Rattle.feeding.proofs.AxisAt.{axis_next}
 use Rattle.feeding.proofs.DatagramLaws.{mark_told}
+use Rattle.std.specs.Prelude.{Ok}
 
 -- the sightings of them are the axis's
 pub counted_sightings : (u : Setup) (axis : ℕ) (ds : List (List ℕ)) → map (λ (c : Counted). c.sighting) (counted u axis ds) ≡ sightings u 0 axis ds
 counted_sightings u axis [] = refl
 counted_sightings u axis (d ∷ ds) = ap (λ (l : List Sighting). sighting u 0 axis d ∷ l) (counted_sightings u axis ds)
 
-module _ (u : Setup) (axis : ℕ) (ok : ruling_on u ≡ Accepted) (k : axis < 3) where
+module _ (u : Setup) (axis : ℕ) (ok : ruling_on u ≡ Ok tt) (k : axis < 3) where
   -- what is kept of the axis beside its total, behind a datagram
   pub doubt_next :
       (first : Bool) (x : History) (d : List ℕ)

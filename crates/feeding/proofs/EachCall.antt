@@ -10,9 +10,6 @@ use native.Mathlib.Omega.{arith}
 use lib.ListN.{length}
 use Rattle.setup.specs.Setup.{ruling_number, ruling_on, length_of}
 use Rattle.setup.specs.declared.Setup.{Setup}
-use Rattle.setup.specs.declared.Ruling as ruling
-use Rattle.setup.specs.declared.Ruling.{Ruling}
-use Rattle.setup.specs.declared.Ruling.TheVariants.{Accepted}
 use Rattle.scan.specs.Calls as calls
 use Rattle.scan.specs.Calls.{State, Fed}
 use Rattle.scan.specs.Carry.{carrying, feed_session}
@@ -33,18 +30,21 @@ use Rattle.admission.proofs.TenLaws.{sound_ten}
 use Rattle.feeding.proofs.Refinement.{SafeOf, state_safe, session_sound}
 use Rattle.feeding.proofs.CallParts.{held_whole, fed_by}
 use Rattle.feeding.proofs.Agreement.{state_call, on_state, call_safe}
+use Rattle.std.specs.Prelude.{Ok, Err}
+use Rattle.refusals.specs.Refusals.{Ruling}
+use Rattle.refusals.specs.declared.Refusal.{Refusal}
 
 -- ---- a call that is neither refused by 10 nor by 11 nor by 12
 
 -- a reply tells of a refusal only where the call was refused
-refused_by : (s : Session) {n : ℕ} (a : calls.Answer Datagram) (k : ℕ) (t : SessionState) → (reply_by s a k t).answer ≡ Refused n → a ≡ calls.Answer.refused n
+refused_by : (s : Session) {n : Refusal} (a : calls.Answer Datagram) (k : ℕ) (t : SessionState) → (reply_by s a k t).answer ≡ Refused n → a ≡ calls.Answer.refused n
 refused_by s (calls.Answer.datagram o) k t e = absurd (let z : ◌≡◌ {A = ℕ} 0 1 = cc in omega arith)
 refused_by s calls.Answer.waiting k t e = absurd (let z : ◌≡◌ {A = ℕ} 0 1 = cc in omega arith)
 refused_by s {n} (calls.Answer.refused m) k t e = let z : m ≡ n = cc in ap calls.Answer.refused z
 
 pub not_refused :
     (s : Session) (p : List ℕ) → is_sound s ≡ true → length p ≤ (limits_of s.setup).piece → s.fed + length p ≤ (limits_of s.setup).session
-    → (n : ℕ) → (feed_of s p).answer ≡ Refused n → ⊥
+    → (n : Refusal) → (feed_of s p).answer ≡ Refused n → ⊥
 not_refused s p e h k n q =
     let u = s.setup in
     let c = calls.call (verdict_of u) (state_of s).scan p in
@@ -60,7 +60,7 @@ module _ (o : Datagram) where
   told_handed Waiting e = absurd (let z : ◌≡◌ {A = ℕ} 0 1 = cc in omega arith)
   told_handed (Refused n) e = absurd (let z : ◌≡◌ {A = ℕ} 0 1 = cc in omega arith)
 
-  pub told_refused : (a : Answer) {n : ℕ} → answer_of a o ≡ calls.Answer.refused n → a ≡ Refused n
+  pub told_refused : (a : Answer) {n : Refusal} → answer_of a o ≡ calls.Answer.refused n → a ≡ Refused n
   told_refused HandedOut e = absurd (let z : ◌≡◌ {A = ℕ} 0 1 = cc in omega arith)
   told_refused Waiting e = absurd (let z : ◌≡◌ {A = ℕ} 0 1 = cc in omega arith)
   told_refused (Refused m) {n} e = let z : m ≡ n = cc in ap Refused z
@@ -70,22 +70,22 @@ pub fed_number : (s : Session) (p : List ℕ) → answer_number (feed_of s p).an
 unfolding feed_of
 fed_number s p = by (piece_ruling s (length p)) ∙ number_told s (length p)
   where
-    made_none : (a : calls.Answer (List ℕ)) (k : ℕ) (t : State) → ((n : ℕ) → a ≡ calls.Answer.refused n → ⊥)
+    made_none : (a : calls.Answer (List ℕ)) (k : ℕ) (t : State) → ((n : Refusal) → a ≡ calls.Answer.refused n → ⊥)
         → answer_number (reply_of s (carrying (consumer s.setup) (state_of s) (record { answer = a; taken = k; next = t }))).answer ≡ none
     made_none (calls.Answer.datagram d) k t h = refl
     made_none calls.Answer.waiting k t h = refl
     made_none (calls.Answer.refused n) k t h = absurd (h n refl)
 
     by : (r : Ruling) → answer_number (feed_by r s p).answer ≡ ruling_number r
-    by ruling.TheVariants.Accepted =
+    by (Ok tt) =
         let c = calls.call (verdict_of s.setup) (state_of s).scan p in
         made_none c.answer c.taken c.next (λ n e. no_refusal (rules_of s.setup) (state_of s).scan p e)
-    by (ruling.TheVariants.Refused n) = refl
+    by (Err n) = refl
 
 -- ---- a call on a session that 10 doesn't turn down
 
 module _ (s : Session) (e : is_sound s ≡ true) where
-  ok : ruling_on s.setup ≡ Accepted
+  ok : ruling_on s.setup ≡ Ok tt
   ok = (sound_facts s e).accepted
 
   module _ (p : List ℕ) where

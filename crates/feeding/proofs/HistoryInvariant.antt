@@ -10,7 +10,6 @@ use lib.ListN.{length}
 use Rattle.setup.specs.Setup.{ruling_on, length_of}
 use Rattle.setup.specs.Sensor.{sensor_of}
 use Rattle.setup.specs.declared.Setup.{Setup}
-use Rattle.setup.specs.declared.Ruling.TheVariants.{Accepted}
 use Rattle.wire.specs.Fields.{fields_of}
 use Rattle.wire.proofs.FieldRanges.{fields_fit}
 use Rattle.motion.specs.Totals.{groups_kept}
@@ -23,8 +22,9 @@ use Rattle.admission.proofs.KeptLaws.{kept_step_lem, kept_none}
 use Rattle.search.proofs.Datagrams.{datagram_length, datagram_parts}
 use Rattle.feeding.proofs.BySetup.{after_datagram}
 use Rattle.feeding.proofs.Refinement.{history_parts, parts_history}
+use Rattle.std.specs.Prelude.{Ok}
 
-module _ (u : Setup) (ok : ruling_on u ≡ Accepted) where
+module _ (u : Setup) (ok : ruling_on u ≡ Ok tt) where
   start_right_lem : history_right u 0 no_history ≡ true
   start_right_lem = parts_history u 0 no_history (omega (arith, mul-zero (length_of u))) (kept_none (groups_kept u))
 

@@ -15,7 +15,6 @@ use Rattle.crc.specs.Check.{stim300, shift, shifts, byte_step, register, padding
 use Rattle.setup.specs.Layout.{parts_of, row_at, parts_at, groups_carried}
 use Rattle.setup.specs.Setup.{setup_rules, ruling_on, length_of}
 use Rattle.setup.specs.declared.Setup.{Setup}
-use Rattle.setup.specs.declared.Ruling.TheVariants.{Accepted}
 use Rattle.wire.specs.Fields.{fields_of_part, fields_of}
 use Rattle.acceptance.specs.Acceptable.{check_right, ending_right, acceptable_in, acceptable}
 use Rattle.motion.specs.Status.{unfit}
@@ -33,11 +32,13 @@ use Rattle.feeding.specs.declared.Datagram.{Datagram}
 use Rattle.feeding.specs.Feed.{no_datagram}
 use Rattle.feeding.specs.Promises.{stream_of, FedInTurn, sighting, sightings, Stands, Carry}
 use Rattle.feeding.proofs.Demands.{demand2, demand3}
+use Rattle.std.specs.Prelude.{Ok}
+use Rattle.refusals.specs.declared.Refusal.TheVariants.{PieceTooLong}
 
 abbrev example : Setup
 example = record { rate = 250; identifier = 0xAF; termination = 1; units = 0 ∷ 0 ∷ 3 ∷ []; shifts = 14 ∷ 19 ∷ 25 ∷ [] }
 
-accepted_example : ruling_on example ≡ Accepted
+accepted_example : ruling_on example ≡ Ok tt
 unfolding ruling_on setup_rules row_at parts_at groups_carried parts_of
 accepted_example = refl
 
@@ -89,7 +90,7 @@ stream_example = refl
 
 reports_example :
     reports (limits_of example) 0 pieces
-    ≡ record { outcome = taken_whole; taken = 88 } ∷ record { outcome = turned_down 11; taken = 0 } ∷ record { outcome = taken_whole; taken = 30 } ∷
+    ≡ record { outcome = taken_whole; taken = 88 } ∷ record { outcome = turned_down PieceTooLong; taken = 0 } ∷ record { outcome = taken_whole; taken = 30 } ∷
     record { outcome = taken_whole; taken = 147 } ∷ record { outcome = taken_whole; taken = 66 } ∷ []
 unfolding reports outcome
 reports_example = refl

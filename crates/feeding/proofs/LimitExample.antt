@@ -9,7 +9,6 @@ use native.Mathlib.Omega.{arith}
 use lib.ListN.{length, length-append, replicate}
 use Rattle.setup.specs.Setup.{ruling_on}
 use Rattle.setup.specs.declared.Setup.{Setup}
-use Rattle.setup.specs.declared.Ruling.TheVariants.{Accepted}
 use Rattle.scan.specs.Rules.{Limits}
 use Rattle.scan.specs.Calls.{Report, taken_whole, turned_down}
 use Rattle.scan.specs.Stream.{outcome, reports, stream}
@@ -19,6 +18,8 @@ use Rattle.session.specs.declared.Session.{Session}
 use Rattle.feeding.specs.declared.Datagram.{Datagram}
 use Rattle.feeding.specs.Promises.{stream_of, FedInTurn, CanBeFed}
 use Rattle.feeding.proofs.Demands.{demand3}
+use Rattle.std.specs.Prelude.{Ok}
+use Rattle.refusals.specs.declared.Refusal.TheVariants.{StreamTooLong}
 
 -- the report of a piece of n bytes that is taken whole
 abbrev whole : ℕ → Report
@@ -60,19 +61,19 @@ module _ (L : Limits) (n : ℕ) (p q r : List ℕ) (small : length p ≤ L.piece
   first_taken : outcome L n (length p) ≡ taken_whole
   first_taken = outcome_taken L n (length p) small (omega arith)
 
-  turned_down_lem : outcome L (n + length p) (length q) ≡ turned_down 12
+  turned_down_lem : outcome L (n + length p) (length q) ≡ turned_down StreamTooLong
   turned_down_lem = outcome_past L (n + length p) (length q) smallToo past
 
   last_taken : outcome L (n + length p) (length r) ≡ taken_whole
   last_taken = outcome_taken L (n + length p) (length r) smallLast fits
 
-  reports_past : reports L n (p ∷ q ∷ r ∷ []) ≡ whole (length p) ∷ record { outcome = turned_down 12; taken = 0 } ∷ whole (length r) ∷ []
+  reports_past : reports L n (p ∷ q ∷ r ∷ []) ≡ whole (length p) ∷ record { outcome = turned_down StreamTooLong; taken = 0 } ∷ whole (length r) ∷ []
   unfolding reports
   reports_past =
       reports_whole L n p (q ∷ r ∷ []) first_taken
       ∙ ap (λ (rs : List Report). whole (length p) ∷ rs)
       (reports_down L (n + length p) q (r ∷ []) turned_down_lem
-      ∙ ap (λ (rs : List Report). record { outcome = turned_down 12; taken = 0 } ∷ rs) (reports_whole L (n + length p) r [] last_taken))
+      ∙ ap (λ (rs : List Report). record { outcome = turned_down StreamTooLong; taken = 0 } ∷ rs) (reports_whole L (n + length p) r [] last_taken))
 
   length_past : length (stream L n (p ∷ q ∷ r ∷ [])) ≡ length p + length r
   unfolding stream
@@ -95,7 +96,7 @@ pieces k = replicate k (zeros 4096) ++ last_three
 
 -- all are taken whole but the one of 11 bytes
 unfoldable all_but_one : ℕ → List Report
-all_but_one k = replicate k (whole 4096) ++ whole 4086 ∷ record { outcome = turned_down 12; taken = 0 } ∷ whole 10 ∷ []
+all_but_one k = replicate k (whole 4096) ++ whole 4086 ∷ record { outcome = turned_down StreamTooLong; taken = 0 } ∷ whole 10 ∷ []
 
 module _ (u : Setup) (k : ℕ) (full : k * 4096 + 4096 ≡ (limits_of u).session) where
   reports_of : reports (limits_of u) 0 (pieces k) ≡ all_but_one k
@@ -117,7 +118,7 @@ module _ (u : Setup) (k : ℕ) (full : k * 4096 + 4096 ≡ (limits_of u).session
       )
 
 -- 4,194,303 full pieces: a session takes 2 ^ 34 bytes, though a piece before the last is turned down by 12
-module _ (u : Setup) (ok : ruling_on u ≡ Accepted) where
+module _ (u : Setup) (ok : ruling_on u ≡ Ok tt) where
   limit_reports : reports (limits_of u) 0 (pieces 4194303) ≡ all_but_one 4194303
   limit_reports = reports_of u 4194303 refl
 

@@ -6,8 +6,6 @@ use mathlib.Core.Bool.{true}
 use mathlib.Core.List.{List, [], ◌++◌}
 use native.Mathlib.Omega.{arith}
 use lib.ListN.{length}
-use Rattle.setup.specs.declared.Ruling as ruling
-use Rattle.setup.specs.declared.Ruling.{Ruling}
 use Rattle.scan.specs.Scan.{First, ends, finds, first, Undecided}
 use Rattle.scan.specs.Calls as calls
 use Rattle.scan.specs.Calls.{State, Fed}
@@ -24,6 +22,8 @@ use Rattle.feeding.specs.Feed.{consumer, no_datagram, state_of, reply_of, feed_b
 use Rattle.feeding.specs.CallParts.{reply_after, reply_at_once}
 use Rattle.feeding.proofs.Refinement.{facts_safe, session_state}
 use Rattle.feeding.proofs.CallParts.{fed_by}
+use Rattle.std.specs.Prelude.{Ok, Err}
+use Rattle.refusals.specs.Refusals.{Ruling}
 
 module _ (s : Session) (e : is_sound s ≡ true) where
   -- nothing is decided yet of the bytes held
@@ -76,9 +76,9 @@ module _ (s : Session) (e : is_sound s ≡ true) where
         by :
             (r : Ruling) → piece_ruling s (length p) ≡ r
             → (1 ≤ (feed_by (piece_ruling s (length p)) s p).taken) × ((feed_by (piece_ruling s (length p)) s p).session.count ≡ 0)
-        by (ruling.TheVariants.Refused n) x =
+        by (Err n) x =
             absurd (let y : Refused n ≡ HandedOut = rw x at q in let z : ◌≡◌ {A = ℕ} 0 1 = cc in omega arith)
-        by ruling.TheVariants.Accepted x =
+        by (Ok tt) x =
             let u = s.setup in
             let ok = (sound_facts s e).accepted in
             rw x

@@ -14,7 +14,6 @@ use Rattle.integers.proofs.Booleans.{and_split, and_true}
 use Rattle.integers.proofs.Buffers.{padded_front, padded_rest}
 use Rattle.setup.specs.Setup.{ruling_on, length_of}
 use Rattle.setup.specs.declared.Setup.{Setup}
-use Rattle.setup.specs.declared.Ruling.TheVariants.{Accepted}
 use Rattle.scan.proofs.RunLaws.{Safe}
 use Rattle.search.specs.Search.{rules_of}
 use Rattle.admission.specs.Admission.{held_bytes, all_zero, kept_right, is_sound}
@@ -22,6 +21,7 @@ use Rattle.history.specs.declared.History.{History}
 use Rattle.session.specs.declared.Session.{Session}
 use Rattle.feeding.specs.Feed.{history_right, consumer, SessionState, state_of, session_of}
 use Rattle.admission.proofs.Soundness.{Facts, sound_facts, facts_sound}
+use Rattle.std.specs.Prelude.{Ok}
 
 -- what is asked of a session of a setup
 abbrev pub SafeOf : Setup → SessionState → Type 0
@@ -70,7 +70,7 @@ zero_zeros (b ∷ l) e =
     let z : b ≡ 0 = eqb-true b 0 p.0 in
     rw z (ap (λ (k : List ℕ). 0 ∷ k) (zero_zeros l p.1))
 
-module _ (u : Setup) (ok : ruling_on u ≡ Accepted) (t : SessionState) (Z : SafeOf u t) where
+module _ (u : Setup) (ok : ruling_on u ≡ Ok tt) (t : SessionState) (Z : SafeOf u t) where
   -- the session of such a one stands for it
   pub state_of_lem : state_of (session_of u t) ≡ t
   state_of_lem =

@@ -21,7 +21,6 @@ use Rattle.setup.specs.Layout.{parts_of, row_at, parts_at, groups_carried}
 use Rattle.setup.specs.Sensor.{rate_of, unit_of, sensor_of}
 use Rattle.setup.specs.Setup.{setup_rules, ruling_on, length_of}
 use Rattle.setup.specs.declared.Setup.{Setup}
-use Rattle.setup.specs.declared.Ruling.TheVariants.{Accepted}
 use Rattle.wire.specs.Fields.{fields_of_part, contents_of, fields_of}
 use Rattle.acceptance.specs.Acceptable.{check_right, ending_right, acceptable_in, acceptable}
 use Rattle.gaps.specs.Gaps.{elapsed}
@@ -45,12 +44,13 @@ use Rattle.feeding.specs.declared.Datagram.{Datagram}
 use Rattle.feeding.specs.Feed.{datagram_with, history_after, tell, consumer, no_datagram}
 use Rattle.feeding.specs.Promises.{stream_of, FedInTurn, answers_for, sightings, Stands, counted}
 use Rattle.feeding.proofs.Demands.{demand2, doubtful_totals}
+use Rattle.std.specs.Prelude.{Ok}
 
 -- the gyro alone, integrated, with shift 21, at a datagram each sample, of which most are lost
 abbrev example : Setup
 example = record { rate = 2000; identifier = 0x90; termination = 0; units = 3 ∷ 0 ∷ 0 ∷ []; shifts = 21 ∷ 0 ∷ 0 ∷ [] }
 
-accepted_example : ruling_on example ≡ Accepted
+accepted_example : ruling_on example ≡ Ok tt
 unfolding ruling_on setup_rules row_at parts_at groups_carried parts_of
 accepted_example = refl
 

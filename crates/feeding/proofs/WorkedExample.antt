@@ -15,7 +15,6 @@ use Rattle.setup.specs.Layout.{parts_of, row_at, parts_at, groups_carried}
 use Rattle.setup.specs.Sensor.{rate_of, unit_of, sensor_of}
 use Rattle.setup.specs.Setup.{setup_rules, ruling_on, length_of}
 use Rattle.setup.specs.declared.Setup.{Setup}
-use Rattle.setup.specs.declared.Ruling.TheVariants.{Accepted}
 use Rattle.wire.specs.Fields.{fields_of_part, contents_of, fields_of}
 use Rattle.acceptance.specs.Acceptable.{check_right, ending_right, acceptable_in, acceptable}
 use Rattle.gaps.specs.Gaps.{datagrams as count, elapsed, missed_after, missed_at}
@@ -35,11 +34,13 @@ use Rattle.feeding.specs.declared.Datagram.{Datagram}
 use Rattle.feeding.specs.Feed.{datagram_with, history_after, tell, no_datagram}
 use Rattle.feeding.specs.Promises.{stream_of, FedInTurn, answers_for, sighting, sightings, Stands, Carry}
 use Rattle.feeding.proofs.Demands.{demand3}
+use Rattle.std.specs.Prelude.{Ok}
+use Rattle.refusals.specs.declared.Refusal.TheVariants.{PieceTooLong}
 
 abbrev example : Setup
 example = record { rate = 1000; identifier = 0x90; termination = 0; units = 3 ∷ 0 ∷ 0 ∷ []; shifts = 21 ∷ 0 ∷ 0 ∷ [] }
 
-accepted_example : ruling_on example ≡ Accepted
+accepted_example : ruling_on example ≡ Ok tt
 unfolding ruling_on setup_rules row_at parts_at groups_carried parts_of
 accepted_example = refl
 
@@ -71,7 +72,7 @@ stream_example = refl
 
 reports_example :
     reports (limits_of example) 0 pieces
-    ≡ record { outcome = taken_whole; taken = 20 } ∷ record { outcome = turned_down 11; taken = 0 } ∷ record { outcome = taken_whole; taken = 25 } ∷
+    ≡ record { outcome = taken_whole; taken = 20 } ∷ record { outcome = turned_down PieceTooLong; taken = 0 } ∷ record { outcome = taken_whole; taken = 25 } ∷
     record { outcome = taken_whole; taken = 13 } ∷ []
 unfolding reports outcome
 reports_example = refl

@@ -1,10 +1,8 @@
 -- 01, The scan; Status, doubles, gaps; Totals; What is turned down, 10 to 12; 02, 2.3, 2.5: what a call of feed answers.
-use Rattle.std.specs.Prelude.{ℕ, ◌*◌, Bool, false, ◌&&◌, List, [], ◌∷◌, map, eqb, ℤ, pos, length, get_or}
+use Rattle.std.specs.Prelude.{ℕ, ◌*◌, Bool, false, ◌&&◌, List, [], ◌∷◌, map, eqb, ℤ, pos, length, get_or, Ok, Err}
 use Rattle.std.proofs.Math.Option.{Option, none, some}
 use Rattle.setup.specs.Setup.{hertz, length_of}
 use Rattle.setup.specs.declared.Setup.{Setup}
-use Rattle.setup.specs.declared.Ruling as ruling
-use Rattle.setup.specs.declared.Ruling.{Ruling}
 use Rattle.setup.specs.Sensor.{sensor_of}
 use Rattle.setup.specs.declared.Sensor.{Sensor}
 use Rattle.wire.specs.Fields.{Contents, contents_of, besides_readings}
@@ -16,14 +14,14 @@ use Rattle.motion.specs.Status.{flagged}
 use Rattle.motion.specs.Judgements.{judgements_of}
 use Rattle.motion.specs.Totals.{no_axes, kept_by, totals_of}
 use Rattle.motion.specs.declared.Judgement.TheVariants.{Fit}
-use Rattle.motion.specs.declared.GroupJudgements.{GroupJudgements}
-use Rattle.motion.specs.declared.Judgements.{Judgements}
+use Rattle.motion.specs.Judgements.{GroupJudgements}
+use Rattle.motion.specs.Judgements.{Judgements}
 use Rattle.doubles.specs.Doubles.{plus_zero, group_values, total_doubles}
 use Rattle.doubles.specs.declared.Values.{Values}
 use Rattle.doubles.specs.declared.Values.TheVariants.{Instantaneous}
 use Rattle.doubles.specs.declared.TotalDoubles.{TotalDoubles}
 use Rattle.doubt.specs.Doubt.{marks_of}
-use Rattle.doubt.specs.declared.GyroMarks.{GyroMarks}
+use Rattle.doubt.specs.Doubt.{GyroMarks}
 use Rattle.scan.specs.Calls as calls
 use Rattle.scan.specs.Calls.{Fed, Report, Run}
 use Rattle.scan.specs.Carry as carry
@@ -38,6 +36,8 @@ use Rattle.feeding.specs.declared.Datagram.{Datagram}
 use Rattle.feeding.specs.declared.Answer.{Answer}
 use Rattle.feeding.specs.declared.Answer.TheVariants.{Datagram as HandedOut, Waiting, Refused}
 use Rattle.feeding.specs.declared.Reply.{Reply}
+use Rattle.refusals.specs.Refusals.{number_of, Ruling}
+use Rattle.refusals.specs.declared.Refusal.{Refusal}
 
 -- ---- what a datagram does to a session, and what comes back with it
 
@@ -165,19 +165,19 @@ session_of u t = session_with u t.carried t.scan.passed t.scan.fed t.scan.held
 abbrev pub reply_by : Session → calls.Answer Datagram → ℕ → SessionState → Reply
 reply_by s (calls.Answer.datagram o) k t = record { answer = HandedOut; taken = k; session = session_of s.setup t; datagram = o }
 reply_by s calls.Answer.waiting k t = record { answer = Waiting; taken = k; session = session_of s.setup t; datagram = no_datagram }
-reply_by s (calls.Answer.refused n) k t = record { answer = Refused n; taken = 0; session = s; datagram = no_datagram }
+reply_by s (calls.Answer.refused e) k t = record { answer = Refused e; taken = 0; session = s; datagram = no_datagram }
 
 abbrev pub reply_of : Session → Fed SessionState Datagram → Reply
 reply_of s c = reply_by s c.answer c.taken c.next
 
 -- a refused call
-abbrev pub refusal : Session → ℕ → Reply
-refusal s n = record { answer = Refused n; taken = 0; session = s; datagram = no_datagram }
+abbrev pub refusal : Session → Refusal → Reply
+refusal s e = record { answer = Refused e; taken = 0; session = s; datagram = no_datagram }
 
 -- A call of feed: refused by 10, 11 or 12, or made on the scan's bytes and counts, with the history beside them
 abbrev pub feed_by : Ruling → Session → List ℕ → Reply
-feed_by (ruling.TheVariants.Refused n) s p = refusal s n
-feed_by ruling.TheVariants.Accepted s p =
+feed_by (Err e) s p = refusal s e
+feed_by (Ok accepted) s p =
     reply_of s (carrying (consumer s.setup) (state_of s) (calls.call (verdict_of s.setup) (state_of s).scan p))
 
 unfoldable pub feed_of : Session → List ℕ → Reply
@@ -189,13 +189,13 @@ feed_of s p = feed_by (piece_ruling s (length p)) s p
 abbrev pub answer_of : Answer → Datagram → calls.Answer Datagram
 answer_of HandedOut o = calls.Answer.datagram o
 answer_of Waiting o = calls.Answer.waiting
-answer_of (Refused n) o = calls.Answer.refused n
+answer_of (Refused e) o = calls.Answer.refused e
 
 -- the number of a refusal, none where a datagram was handed out or the piece ended
 abbrev pub answer_number : Answer → Option ℕ
 answer_number HandedOut = none
 answer_number Waiting = none
-answer_number (Refused n) = some n
+answer_number (Refused e) = some (number_of e)
 
 abbrev pub call_by : Reply → Fed Session Datagram
 call_by r = record { answer = answer_of r.answer r.datagram; taken = r.taken; next = r.session }

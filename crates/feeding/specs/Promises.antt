@@ -12,7 +12,7 @@ use Rattle.gaps.specs.Gaps.{datagrams, missed_in, missed_at}
 use Rattle.motion.specs.Status.{fit, flagged}
 use Rattle.motion.specs.Judgements.{JudgedBy}
 use Rattle.motion.specs.declared.Judgement.TheVariants.{Fit}
-use Rattle.motion.specs.declared.GroupJudgements.{GroupJudgements}
+use Rattle.motion.specs.Judgements.{GroupJudgements}
 use Rattle.motion.specs.Totals.{no_axis, Sighting, axis_step, keeps, axis_at, total_at, fit_readings, fit_before, reading_of, Close, total_of, after}
 use Rattle.doubles.specs.Doubles.{negative, plus_zero, unit_number_in, doubles_in, values_for, double_at}
 use Rattle.doubt.specs.Doubt.{added, no_doubt, doubt_step, doubt_at, mark_at}
@@ -31,6 +31,8 @@ use Rattle.feeding.specs.declared.Datagram.{Datagram}
 use Rattle.feeding.specs.declared.Reply.{Reply}
 use Rattle.feeding.specs.Feed.{consumer, no_datagram, refusal, feed_of, call, Calls}
 use Rattle.feeding.specs.OneLength.{OneLength}
+use Rattle.refusals.specs.declared.Refusal.TheVariants.{SessionUnsound, PieceTooLong, StreamTooLong}
+use Rattle.refusals.specs.declared.Refusal.{Refusal}
 
 -- ---- what the demands speak of
 
@@ -194,17 +196,17 @@ pub record EveryCall : Type 0 where
   -- what holds only while all datagrams have one length
   pub one_length_lem : OneLength
   -- a call is refused by 10, else by 11, else by 12, and by nothing else; a refusal takes no bytes and returns the session as given
-  pub ten : (s : Session) (p : List ℕ) → (PassesTen s → ⊥) → feed_of s p ≡ refusal s 10
-  pub eleven : (s : Session) (p : List ℕ) → PassesTen s → (limits_of s.setup).piece < length p → feed_of s p ≡ refusal s 11
+  pub ten : (s : Session) (p : List ℕ) → (PassesTen s → ⊥) → feed_of s p ≡ refusal s SessionUnsound
+  pub eleven : (s : Session) (p : List ℕ) → PassesTen s → (limits_of s.setup).piece < length p → feed_of s p ≡ refusal s PieceTooLong
   pub twelve :
       (s : Session) (p : List ℕ) → PassesTen s → length p ≤ (limits_of s.setup).piece → (limits_of s.setup).session < s.fed + length p
-      → feed_of s p ≡ refusal s 12
+      → feed_of s p ≡ refusal s StreamTooLong
   pub no_other :
       (s : Session) (p : List ℕ) → PassesTen s → length p ≤ (limits_of s.setup).piece → s.fed + length p ≤ (limits_of s.setup).session
-      → (n : ℕ) → (call s p).answer ≡ refused n → ⊥
+      → (e : Refusal) → (call s p).answer ≡ refused e → ⊥
   -- what a refused opening gives back is turned down by 10
   pub refused_opening :
-      (u : Setup) {n : ℕ} → setup_number u ≡ some n → (p : List ℕ) → feed_of (opening u).session p ≡ refusal (opening u).session 10
+      (u : Setup) {n : ℕ} → setup_number u ≡ some n → (p : List ℕ) → feed_of (opening u).session p ≡ refusal (opening u).session SessionUnsound
 
 -- ---- demand 2
 

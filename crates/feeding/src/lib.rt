@@ -4,6 +4,7 @@ use doubles::{GroupValues, TotalDoubles};
 use doubt::GyroMarks;
 use gaps::Gap;
 use motion::{Judgements, Totals};
+use refusals::Refusal;
 use session::Session;
 use wire::Fields;
 
@@ -28,12 +29,12 @@ pub struct Datagram {
     pub doubtful: GyroMarks,
 }
 
-// What happened: a datagram was handed out, the piece ended, the call was refused by a number.
+// What happened: a datagram was handed out, the piece ended, the call was refused (01, The scan). It is no Result: 01 tells of three kinds beside the session.
 #[derive(Clone, Copy)]
 pub enum Answer {
     Datagram,
     Waiting,
-    Refused(u8),
+    Refused(Refusal),
 }
 
 // What a call tells: which happened, how many bytes it took, the new session, and the datagram, zeros, every axis fit and no mark where none is handed out.

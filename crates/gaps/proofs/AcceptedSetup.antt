@@ -6,11 +6,11 @@ use Rattle.setup.specs.Setup.{ruling_on}
 use Rattle.setup.specs.Sensor.{sensor_of}
 use Rattle.setup.specs.declared.Setup.{Setup}
 use Rattle.setup.specs.declared.Sensor.{Sensor}
-use Rattle.setup.specs.declared.Ruling.TheVariants.{Accepted}
 use Rattle.setup.proofs.Sensors.{sensor_rate}
 use Rattle.gaps.specs.Gaps.{gap_at, gap_between}
+use Rattle.std.specs.Prelude.{Ok}
 
-module _ (u : Setup) (a : ruling_on u ≡ Accepted) where
+module _ (u : Setup) (a : ruling_on u ≡ Ok tt) where
   abbrev s : Sensor
   s = sensor_of u
 

@@ -6,15 +6,15 @@ ghost use Rattle.gaps.specs.Gaps.{elapsed, gap_with, missed_after, gap_between};
 use setup::Rate;
 
 // A count of internal samples, 2,000 a second.
-#[derive(Clone, Copy)]
+#[derive(Clone, Copy, Debug, PartialEq, Eq)]
 pub struct Samples(pub u32);
 
 // A count of datagrams.
-#[derive(Clone, Copy)]
+#[derive(Clone, Copy, Debug, PartialEq, Eq)]
 pub struct Datagrams(pub u64);
 
-// What lies between two datagrams.
-#[derive(Clone, Copy)]
+// What lies between two datagrams. No Option: off step is an answer of its own, and shows as `?`.
+#[derive(Clone, Copy, Debug, PartialEq, Eq)]
 pub enum Gap {
     Missed(Datagrams),
     OffStep,

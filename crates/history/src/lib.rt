@@ -12,7 +12,7 @@ use setup::Rate;
 const GREATEST_COUNT: u64 = 18446744073709551615;
 
 // What a session keeps of the datagrams handed out, beside the bytes and counts of the scan.
-#[derive(Clone, Copy)]
+#[derive(Clone, Copy, Debug, PartialEq, Eq)]
 pub struct History {
     // how many there were
     pub datagrams: Datagrams,

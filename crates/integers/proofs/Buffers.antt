@@ -1,14 +1,14 @@
 -- Laws of bytes in a buffer: parts of a list as a slice gives them, zeros behind bytes, and bytes written behind others. Assumes nothing.
-use Prim.Native.Nat.{ℕ, zero, suc, ◌+◌, ◌-◌, ◌≤◌, ◌<◌, min}
+use Prim.Native.Nat.{ℕ, zero, suc, ◌+◌, ◌-◌, ◌≤◌, ◌<◌}
 use mathlib.Core.Path.{◌≡◌, refl, sym, ap, ◌∙◌}
 use mathlib.Core.List.{List, [], ◌∷◌, ◌++◌, map, append_assoc, append-nil}
 use native.Mathlib.Nat.{add-zero, zero-add, add-suc, suc-add}
-use native.Mathlib.Decide.{dec_le}
 use native.Mathlib.Omega.{arith}
 use borrow.Rule.Slice.PartMut.{mid_of, put_mid}
-use lib.ListN.{length, take, drop, get_or, set, replicate, length-append, length-drop, length-replicate, drop_of_length-le}
+use lib.ListN.{length, take, drop, get_or, set, replicate, length-append, length-drop, length-take, length-replicate, drop_of_length-le}
 use lib.Seq.{take_all, take-length, take_at, drop_at, drop-drop, set-append_seam, append_snoc, sets, sets-eq, length-sets}
 use native.Mathlib.Numerals.{add-one}
+use Rattle.std.proofs.lemmas.List.{drop-replicate}
 use Rattle.integers.specs.Buffers.{padded, Put}
 
 -- ---- parts
@@ -22,14 +22,6 @@ pub part_of : (p : List ℕ) (i n : ℕ) → take (i + n - i) (drop i p) ≡ tak
 part_of p i n =
     let e : i + n - i ≡ n = omega arith in
     ap (λ (m : ℕ). take m (drop i p)) e
-
--- as many bytes as there are, n at most, are the first n
-pub take_least : (n k : ℕ) (l : List ℕ) → k ≡ min (length l) n → take k l ≡ take n l
-take_least n k l e = go (dec_le (length l) n)
-  where
-    go : Dec (length l ≤ n) → take k l ≡ take n l
-    go (yes h) = take_all k l (omega arith) ∙ sym (take_all n l h)
-    go (no h) = let m : k ≡ n = omega arith in ap (λ (j : ℕ). take j l) m
 
 -- the first n of what is made of each
 pub take_map : {A B : Type 0} (f : A → B) (l : List A) (n : ℕ) → take n (map f l) ≡ map f (take n l)
@@ -117,14 +109,11 @@ copied_part b s a n l h e =
     (ap (put_mid a (length b - a) b) (rw (← l) at e ∙ ap (λ (t : List ℕ). t ++ drop (length s) (mid_of a (length b - a) b)) (take-length s))
     ∙ put_part b s a (omega arith))
 
--- and to the front of zeros
-pub copied_front : (n : ℕ) (s : List ℕ) → length s ≤ n → take (length s) s ++ drop (length s) (replicate n 0) ≡ padded n s
-copied_front n s h =
-    let all : n ≡ n - 0 = omega arith in
-    ap (λ (t : List ℕ). t ++ drop (length s) (replicate n 0)) (take-length s)
-    ∙ sym (put_front (replicate n 0) s (omega (arith, length-replicate {A = ℕ} n 0)))
-    ∙ ap (λ (k : ℕ). sets (replicate k 0) 0 s) all
-    ∙ padded_sets n [] s 0 refl (omega arith)
+-- bytes copied to the front of n zeros: the first n of them, with zeros behind where there are fewer
+pub copied_front : (n : ℕ) (s : List ℕ) → take (length (replicate {A = ℕ} n 0)) s ++ drop (length s) (replicate n 0) ≡ padded n (take n s)
+copied_front n s =
+    let left : n - length s ≡ n - length (take n s) = omega (arith, length-take n s) in
+    rw (length-replicate {A = ℕ} n 0, drop-replicate {X = ℕ} (length s) n 0, left)
 
 -- ---- texts put into a buffer one behind the other are their joined text, put where the first begins
 
@@ -136,19 +125,9 @@ put_none {b} {at} = record { place = sym (add-zero at); bytes = refl }
 pub put_byte : {b : List ℕ} {at x : ℕ} → Put b at (x ∷ []) (set b at x) (at + 1)
 put_byte = record { place = refl; bytes = refl }
 
--- two, three and four, as code counts their places
+-- two, as code counts their places
 pub put_two : {b : List ℕ} {at x y : ℕ} → Put b at (x ∷ y ∷ []) (set (set b at x) (at + 1) y) (at + 2)
 put_two {b} {at} = record { place = refl; bytes = rw (add-one at) }
-
-pub put_three : {b : List ℕ} {at x y z : ℕ} → Put b at (x ∷ y ∷ z ∷ []) (set (set (set b at x) (at + 1) y) (at + 2) z) (at + 3)
-put_three {b} {at} = let e : at + 2 ≡ suc (suc at) = omega arith in record { place = refl; bytes = rw (add-one at, e) }
-
-pub put_four :
-    {b : List ℕ} {at x y z w : ℕ} → Put b at (x ∷ y ∷ z ∷ w ∷ []) (set (set (set (set b at x) (at + 1) y) (at + 2) z) (at + 3) w) (at + 4)
-put_four {b} {at} =
-    let e : at + 2 ≡ suc (suc at) = omega arith in
-    let f : at + 3 ≡ suc (suc (suc at)) = omega arith in
-    record { place = refl; bytes = rw (add-one at, e, f) }
 
 module _ {b b1 : List ℕ} {at mid : ℕ} {s : List ℕ} (p : Put b at s b1 mid) where
   -- the buffer keeps its length

@@ -2,22 +2,23 @@
 use mathlib.Core.Path.{◌≡◌, refl, sym, ap, ◌∙◌, subst}
 use mathlib.Core.Bool.{Bool, true, false}
 use mathlib.Core.List.{List, [], ◌∷◌, ◌++◌}
-use Prim.Native.Nat.{ℕ, zero, suc, ◌+◌, ◌*◌, ◌/◌, ◌%◌, ◌^◌, ◌≤◌, ◌<◌}
-use native.Mathlib.Nat.{suc-mul, mul-le-mul_right, lt_of_lt_of_le}
+use Prim.Native.Nat.{ℕ, zero, suc, ◌+◌, ◌-◌, ◌*◌, ◌/◌, ◌%◌, ◌^◌, ◌≤◌, ◌<◌}
+use native.Mathlib.Nat.{suc-mul, mul-le-mul_right}
 use native.Mathlib.Omega.{arith}
 use lib.Dec.{ltb}
-use lib.IntN.{ℤ, pos, ◌-ℤ◌}
+use lib.IntN.{ℤ, pos, negsuc, ◌-ℤ◌}
 use lib.ListN.{length, take, drop, get_or}
-use lib.Pow.{pow-add, pow_mono, high, low}
+use lib.Pow.{pow-add, high, low}
 use lib.Seq.{get_or-drop}
-use mir.Syntax.{Width}
-use mir.Val.{hbits, SFits, of_z, to_z}
-use mir.ValLaws.{to_z_pos, to_z-of_z}
+use lib.Signed.{shr_z}
+use mir.Syntax.{Width, w16, w32}
+use mir.Val.{bits, hbits, to_z}
+use mir.ValLaws.{to_z_pos, to_z-neg, pow-bits}
 use borrow.Author.Tests.{lt-ltb, le-ltb, ltb-true, ltb-false}
+use Rattle.std.specs.Int.{cast_signed, from_be_bytes}
 use Rattle.integers.specs.Bytes.{AllBytes, are_bytes, big_endian, twos_complement, signed_bytes}
 use Rattle.integers.proofs.Booleans.{and_split, and_true}
-use Rattle.integers.proofs.Parts.{pos_part, neg_part, parts_apart, sub_parts}
-use Rattle.integers.proofs.Signed.{sfits_of_parts}
+use Rattle.integers.proofs.Parts.{pos_part, neg_part, parts_apart, sub_parts, parts_ext}
 
 -- ---- lists of bytes
 
@@ -139,28 +140,55 @@ pub signed_bytes_range : (bs : List ℕ) → AllBytes bs → Complement (8 * len
 unfolding signed_bytes
 signed_bytes_range bs h = twos_complement_range (8 * length bs) (big_endian bs) (big_endian_below bs h)
 
--- the code of it, in signed numbers of the width v, for bytes whose value is n: n is cast, and in the upper half 2 ^ width is taken off
-module _ (v : Width) (w n : ℕ) (narrow : w ≤ hbits v) (h : n < 2 ^ w) where
-  cast_whole : to_z v n ≡ pos n
-  cast_whole = to_z_pos v n (lt_of_lt_of_le h (pow_mono narrow))
+-- as the machine reads the bits of a whole width
+pub read_signed : (v : Width) (n : ℕ) → n < 2 ^ bits v → to_z v n ≡ twos_complement (bits v) n
+read_signed v n h = by (ltb n (2 ^ hbits v)) refl
+  where
+    by : (t : Bool) → ltb n (2 ^ hbits v) ≡ t → to_z v n ≡ twos_complement (bits v) n
+    by true e =
+        let l = ltb-true n (2 ^ hbits v) e in
+        to_z_pos v n l ∙ sym (twos_complement_low (bits v) n (omega (arith, pow-bits v)))
+    by false e =
+        let l = ltb-false n (2 ^ hbits v) e in
+        let k : ℕ = 2 ^ bits v - suc n in
+        let back : n ≡ 2 ^ bits v - suc k = omega arith in
+        ap (to_z v) back
+        ∙ to_z-neg v k (omega (arith, pow-bits v))
+        ∙ parts_ext (negsuc k) (pos n -ℤ pos (2 ^ bits v)) (omega (arith, sub_parts (pos n) (pos (2 ^ bits v))))
+        ∙ sym (twos_complement_high (bits v) n (omega (arith, pow-bits v)))
 
-  pub lowered_fits : SFits v (to_z v n -ℤ pos (2 ^ w))
-  lowered_fits =
-      let z = pos n -ℤ pos (2 ^ w) in
-      let s = sub_parts (pos n) (pos (2 ^ w)) in
-      let a = parts_apart z in
-      let p : 2 ^ w ≤ 2 ^ hbits v = pow_mono narrow in
-      rw cast_whole (sfits_of_parts v z (omega arith) (omega arith))
+pub signed_two : (a b : ℕ) → a < 256 → b < 256 → cast_signed w16 (from_be_bytes w16 (a ∷ b ∷ [])) ≡ signed_bytes (a ∷ b ∷ [])
+unfolding signed_bytes
+signed_two a b ha hb =
+    let n : from_be_bytes w16 (a ∷ b ∷ []) ≡ big_endian (a ∷ b ∷ []) = omega (arith, big_endian_two a b) in
+    read_signed w16 (from_be_bytes w16 (a ∷ b ∷ [])) (omega arith) ∙ ap (twos_complement 16) n
 
-  pub cast_low : (bs : List ℕ) → w ≡ 8 * length bs → n ≡ big_endian bs → 2 * n < 2 ^ w → to_z v n ≡ signed_bytes bs
-  unfolding signed_bytes
-  cast_low bs ew en l = cast_whole ∙ sym (twos_complement_low w n l) ∙ ap (twos_complement w) en ∙ ap (λ (k : ℕ). twos_complement k (big_endian bs)) ew
+-- a reading at the top of four bytes, shifted down
+pub signed_three : (a b c : ℕ) → a < 256 → b < 256 → c < 256
+    → shr_z (cast_signed w32 (from_be_bytes w32 (a ∷ b ∷ c ∷ 0 ∷ []))) 256 ≡ signed_bytes (a ∷ b ∷ c ∷ [])
+unfolding signed_bytes
+signed_three a b c ha hb hc = by (ltb (2 * n) (2 ^ 24)) refl
+  where
+    n : ℕ
+    n = big_endian (a ∷ b ∷ c ∷ [])
 
-  pub cast_high : (bs : List ℕ) → w ≡ 8 * length bs → n ≡ big_endian bs → 2 ^ w ≤ 2 * n → to_z v (of_z v (to_z v n -ℤ pos (2 ^ w))) ≡ signed_bytes bs
-  unfolding signed_bytes
-  cast_high bs ew en l =
-      to_z-of_z v (to_z v n -ℤ pos (2 ^ w)) lowered_fits
-      ∙ ap (λ (z : ℤ). z -ℤ pos (2 ^ w)) cast_whole
-      ∙ sym (twos_complement_high w n l)
-      ∙ ap (twos_complement w) en
-      ∙ ap (λ (k : ℕ). twos_complement k (big_endian bs)) ew
+    read : cast_signed w32 (from_be_bytes w32 (a ∷ b ∷ c ∷ 0 ∷ [])) ≡ twos_complement 32 (n * 256)
+    read =
+        let four = big_endian_four 0 a b c in
+        let same : n ≡ big_endian (0 ∷ a ∷ b ∷ c ∷ []) = sym (big_endian_zero (a ∷ b ∷ c ∷ [])) in
+        read_signed w32 (from_be_bytes w32 (a ∷ b ∷ c ∷ 0 ∷ [])) (omega arith) ∙ ap (twos_complement 32) (omega arith)
+
+    by : (t : Bool) → ltb (2 * n) (2 ^ 24) ≡ t → shr_z (cast_signed w32 (from_be_bytes w32 (a ∷ b ∷ c ∷ 0 ∷ []))) 256 ≡ twos_complement 24 n
+    by true e =
+        let l = ltb-true (2 * n) (2 ^ 24) e in
+        let exact : n * 256 / 256 ≡ n = omega arith in
+        rw (read, twos_complement_low 32 (n * 256) (omega arith), twos_complement_low 24 n l) (ap pos exact)
+    by false e =
+        let l = ltb-false (2 * n) (2 ^ 24) e in
+        let m : ℕ = 2 ^ 24 - suc n in
+        let small : n < 2 ^ 24 = omega (arith, big_endian_four 0 a b c, big_endian_zero (a ∷ b ∷ c ∷ [])) in
+        let below : pos (n * 256) -ℤ pos (2 ^ 32) ≡ negsuc (m * 256 + 255) =
+        parts_ext (pos (n * 256) -ℤ pos (2 ^ 32)) (negsuc (m * 256 + 255)) (omega (arith, sub_parts (pos (n * 256)) (pos (2 ^ 32)))) in
+        let exact : (m * 256 + 255) / 256 ≡ m = omega arith in
+        rw (read, twos_complement_high 32 (n * 256) (omega arith), below, exact, twos_complement_high 24 n l)
+        (parts_ext (negsuc m) (pos n -ℤ pos (2 ^ 24)) (omega (arith, sub_parts (pos n) (pos (2 ^ 24)))))

@@ -10,7 +10,7 @@ use native.Mathlib.Nat.{add-zero, zero-add, zero-mul}
 use native.Mathlib.Omega.{arith}
 use lib.Dec.{T, ltb, leb, leb→le, leb-suc-suc}
 use lib.IntN.{ℤ, pos, negsuc, neg_ℤ, nat_abs, sub_ℕ, ◌+ℤ◌, ◌-ℤ◌, ◌*ℤ◌}
-use lib.Signed.{mag, non_neg, le_z, lt_z, pos-nat_abs, ◌≤ℤ◌}
+use lib.Signed.{mag, le_z, lt_z, ◌≤ℤ◌}
 use borrow.Author.Tests.{ltb-true, ltb-false, leb-true, lt-ltb, le-ltb, le-leb, lt-leb}
 
 abbrev pub pos_part : ℤ → ℕ
@@ -48,14 +48,6 @@ mag_of_parts (negsuc n) h a b = b
 pub parts_of_mag : (x : ℤ) (h : ℕ) → mag x < h → (pos_part x < h) × (neg_part x ≤ h)
 parts_of_mag (pos n) h a = omega arith
 parts_of_mag (negsuc n) h a = omega arith
-
--- what a cast to an unsigned type asks, and what it gives
-pub nonneg_of_parts : (x : ℤ) → neg_part x ≡ 0 → T (non_neg x)
-nonneg_of_parts (pos n) h = tt
-nonneg_of_parts (negsuc n) h = let z : ⊥ = omega arith in absurd z
-
-pub nat_abs_nonneg : (x : ℤ) → neg_part x ≡ 0 → pos (nat_abs x) ≡ x
-nat_abs_nonneg x h = pos-nat_abs x (nonneg_of_parts x h)
 
 -- ---- the operations
 

@@ -5,34 +5,27 @@
 --     of a struct's field     record { sfits = omega arith }
 --     of a sum and the like   sfits-of-parts, sfits-of-abs
 -- Assumes nothing.
-use mathlib.Core.Path.{◌≡◌, refl, sym, ap, ◌∙◌, subst}
+use mathlib.Core.Path.{◌≡◌, sym, ap, ◌∙◌, subst}
 use mathlib.Core.Bool.{true, false}
-use Prim.Native.Nat.{ℕ, suc, ◌+◌, ◌-◌, ◌*◌, ◌^◌, ◌≤◌, ◌<◌}
+use Prim.Native.Nat.{◌+◌, ◌^◌, ◌≤◌, ◌<◌}
 use native.Mathlib.Nat.{lt_of_lt_of_le}
 use native.Mathlib.Omega.{arith}
-use lib.Dec.{T, leb, eqb, leb→le, eqb-suc-zero}
-use lib.IntN.{ℤ, pos, negsuc, nat_abs}
+use lib.Dec.{T, leb, leb→le}
+use lib.IntN.{ℤ, nat_abs}
 use lib.Pow.{pow_mono}
-use lib.Signed.{mag, lt_z, nat_abs-le}
-use borrow.Author.Tests.{ne_eqb}
+use lib.Signed.{mag, lt_z}
 use mir.Syntax.{Width}
 use mir.Val.{hbits, SFits, of_z, to_z}
-use mir.ValLaws.{to_z-of_z, pow-bits}
-use Rattle.integers.proofs.Parts.{pos_part, neg_part, nat_abs_parts, mag_of_parts, parts_of_mag, lt_z_true, lt_z_false}
+use mir.ValLaws.{to_z-of_z}
+use Rattle.integers.proofs.Parts.{pos_part, neg_part, nat_abs_parts, mag_of_parts, lt_z_true, lt_z_false}
 
 -- ---- what fits
 
 pub sfits_of_parts : (w : Width) (z : ℤ) → pos_part z < 2 ^ hbits w → neg_part z ≤ 2 ^ hbits w → SFits w z
 sfits_of_parts w z a b = record { sfits = mag_of_parts z (2 ^ hbits w) a b }
 
-pub parts_of_sfits : (w : Width) (z : ℤ) → SFits w z → (pos_part z < 2 ^ hbits w) × (neg_part z ≤ 2 ^ hbits w)
-parts_of_sfits w z f = parts_of_mag z (2 ^ hbits w) f.sfits
-
 pub sfits_of_abs : (w : Width) (z : ℤ) → nat_abs z < 2 ^ hbits w → SFits w z
 sfits_of_abs w z h = let e = nat_abs_parts z in sfits_of_parts w z (omega arith) (omega arith)
-
-pub abs_of_sfits : (w : Width) (z : ℤ) → SFits w z → nat_abs z ≤ 2 ^ hbits w
-abs_of_sfits w z f = nat_abs-le z f.sfits
 
 -- a number that equals one that fits
 pub sfits_by : {w : Width} {x y : ℤ} → x ≡ y → SFits w y → SFits w x
@@ -61,14 +54,6 @@ pub passed : {A : Type 0} (w : Width) (f : ℤ → A) {r : A} (z : ℤ) → SFit
 passed w f z h e = e ∙ ap f (to_z-of_z w z h)
 
 -- ---- tests
-
--- `z == 0` compares bits
-pub zero_test : (w : Width) (z : ℤ) → SFits w z → eqb (of_z w z) 0 ≡ eqb (nat_abs z) 0
-zero_test w (pos n) f = refl
-zero_test w (negsuc n) f = ne_eqb _ 0 (above f.sfits (pow-bits w)) ∙ sym (eqb-suc-zero n)
-  where
-    above : {h m : ℕ} → n < h → m ≡ h * 2 → m - suc n ≡ 0 → ⊥
-    above k p e = omega arith
 
 -- what a test `x < y` of a signed number x says, as a branch leaves it
 module _ (w : Width) (x y : ℤ) (f : SFits w x) where

@@ -5,41 +5,35 @@ ghost use Rattle.integers.specs.Bytes.{big_endian, signed_bytes};
 ghost use Rattle.integers.specs.Ranges.{is_zero, within, in_reading};
 
 // Two bytes as an unsigned number, as the latency is sent.
+#[tactic(auto, using(crate::proofs::Bytes::big_endian_two))]
 pub fn unsigned_of(first: u8, second: u8) -> u16
     ensures { result ≡ big_endian (first ∷ second ∷ []) }
 {
-    first as u16 * 256 + second as u16
+    u16::from_be_bytes([first, second])
 }
 
 // Two bytes as a two's complement number, as a temperature is sent.
+#[tactic(auto, using(crate::proofs::Bytes::signed_two))]
 pub fn temperature_of(first: u8, second: u8) -> i32
     ensures { result ≡ signed_bytes (first ∷ second ∷ []) }
 {
-    let n = unsigned_of(first, second);
-    let z = n as i32;
-    if n < 32768 {
-        return z;
-    }
-    z - 65536
+    i16::from_be_bytes([first, second]) as i32
 }
 
 // Four bytes as an unsigned number, as the check is sent.
+#[tactic(auto, using(crate::proofs::Bytes::big_endian_four))]
 pub fn four_bytes_of(first: u8, second: u8, third: u8, fourth: u8) -> u32
     ensures { result ≡ big_endian (first ∷ second ∷ third ∷ fourth ∷ []) }
 {
-    first as u32 * 16777216 + second as u32 * 65536 + third as u32 * 256 + fourth as u32
+    u32::from_be_bytes([first, second, third, fourth])
 }
 
-// Three bytes as a two's complement number, as a reading is sent.
+// Three bytes as a two's complement number, as a reading is sent: the upper three of four, shifted down with their sign.
+#[tactic(auto, using(crate::proofs::Bytes::signed_three))]
 pub fn reading_of(first: u8, second: u8, third: u8) -> i32
     ensures { result ≡ signed_bytes (first ∷ second ∷ third ∷ []) }
 {
-    let n = four_bytes_of(0, first, second, third);
-    let z = n as i32;
-    if n < 8388608 {
-        return z;
-    }
-    z - 16777216
+    i32::from_be_bytes([first, second, third, 0]) >> 8
 }
 
 // z is 0.
@@ -53,11 +47,7 @@ pub fn is_zero(z: i64) -> bool
 pub fn magnitude(z: i64) -> u64
     ensures { result ≡ nat_abs z }
 {
-    if z < 0 {
-        ((0 - (z + 1)) as u64) + 1
-    } else {
-        z as u64
-    }
+    z.unsigned_abs()
 }
 
 // z is at most `limit` in size, for every limit.
@@ -71,12 +61,12 @@ pub fn is_within(z: i64, limit: u64) -> bool
 pub fn fits_reading(z: i32) -> bool
     ensures { result ≡ in_reading z }
 {
-    (-8388608 <= z) & (z <= 8388607)
+    (-8388608..=8388607).contains(&z)
 }
 
 // The byte at a place, 0 beyond the end.
 pub fn byte_or_zero(s: &[u8], place: usize) -> u8
     ensures { result ≡ get_or s.now place 0 }
 {
-    if place < s.len() { s[place] } else { 0 }
+    s.get(place).copied().unwrap_or(0)
 }

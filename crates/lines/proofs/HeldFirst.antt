@@ -32,7 +32,6 @@ use Rattle.feeding.proofs.BySetup.{told_datagram}
 use Rattle.feeding.proofs.Refinement.{count_held}
 use Rattle.feeding.proofs.CallParts.{count_less}
 use Rattle.feeding.proofs.OneLength.{fed_at_once}
-use Rattle.whole_piece.specs.declared.Received.TheVariants.{Lines}
 use Rattle.whole_piece.specs.declared.Batch.{Batch}
 use Rattle.whole_piece.specs.Lines.{line_of, found_in, room_for}
 use Rattle.whole_piece.specs.NextLines.{next_line, text_of}
@@ -40,6 +39,7 @@ use Rattle.lines.specs.PieceParts.{start_of, batch_by, Ready, scan_at, Answered,
 use Rattle.whole_piece.proofs.NextLines.{few_of, right_next, line_inside, line_short, text_none, text_more}
 use Rattle.integers.proofs.Buffers.{sets_append}
 use Rattle.lines.proofs.LoopInvariant.{scan_complete, scan_open}
+use Rattle.std.specs.Prelude.{Ok}
 
 module _ (s : Session) (p : List ℕ) (room : ℕ) (a : Permitted s (length p) room) where
   abbrev setup : Setup
@@ -202,7 +202,7 @@ module _ (s : Session) (p : List ℕ) (room : ℕ) (a : Permitted s (length p) r
         let same : batch_by turn.session used g (length p - taken) ≡ batch_by s 0 found (length p) =
         λ i.
         record {
-          answer = Lines (n i);
+          answer = Ok (n i);
           session = session_with setup k (passed i) (fed i) g.held;
         }
         in
@@ -220,11 +220,11 @@ module _ (s : Session) (p : List ℕ) (room : ℕ) (a : Permitted s (length p) r
 
   -- ---- the piece ended
 
-  pub waited_answered : (feed_of s p).answer ≡ Waiting → (b : List ℕ) → Answered s 0 (found_in s p) (length p) b b (record { answer = Lines 0; session = (feed_of s p).session })
+  pub waited_answered : (feed_of s p).answer ≡ Waiting → (b : List ℕ) → Answered s 0 (found_in s p) (length p) b b (record { answer = Ok 0; session = (feed_of s p).session })
   unfolding reply_after batch_by carried_after
   waited_answered e b = by (first (verdict_of setup) joint) refl
     where
-      by : (f : First) → first (verdict_of setup) joint ≡ f → Answered s 0 (found_in s p) (length p) b b (record { answer = Lines 0; session = (feed_of s p).session })
+      by : (f : First) → first (verdict_of setup) joint ≡ f → Answered s 0 (found_in s p) (length p) b b (record { answer = Ok 0; session = (feed_of s p).session })
       by (finds n d r) q =
           let w : (feed_of s p).answer ≡ HandedOut = ap (λ (r : Reply). r.answer) (turned (finds n d r) q) in
           absurd (let z : ◌≡◌ {A = ℕ} 0 1 = cc in omega arith)
@@ -234,17 +234,17 @@ module _ (s : Session) (p : List ℕ) (room : ℕ) (a : Permitted s (length p) r
           let none : text_of setup kept (passing n (holding h)) ≡ [] = text_none setup kept n h in
           let zero : 0 ≡ 0 + length (text_of setup kept (passing n (holding h))) = omega (arith, ap length none) in
           let passed : s.passed + n ≡ s.passed + (n + 0) = omega arith in
-          let same : record { answer = Lines 0; session = (reply_after s (length p) (ends n h)).session } ≡ batch_by s 0 (passing n (holding h)) (length p) =
+          let same : record { answer = Ok 0; session = (reply_after s (length p) (ends n h)).session } ≡ batch_by s 0 (passing n (holding h)) (length p) =
           λ i.
           record {
-            answer = Lines (zero i);
+            answer = Ok (zero i);
             session = session_with setup s.history (passed i) (s.fed + length p) h;
           }
           in
-          subst (λ (g : Scanned). Answered s 0 g (length p) b b (record { answer = Lines 0; session = (feed_of s p).session }))
+          subst (λ (g : Scanned). Answered s 0 g (length p) b b (record { answer = Ok 0; session = (feed_of s p).session }))
           (sym (scan_open setup facts.accepted joint n w))
           (record {
-            batch = ap (λ (r : Reply). record { answer = Lines 0; session = r.session }) (turned (ends n h) w.scan) ∙ same;
+            batch = ap (λ (r : Reply). record { answer = Ok 0; session = r.session }) (turned (ends n h) w.scan) ∙ same;
             text = ap (sets b 0) (sym none);
             fits = omega (arith, ap length none);
           })

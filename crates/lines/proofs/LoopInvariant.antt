@@ -12,7 +12,6 @@ use Rattle.history.specs.declared.History.{History}
 use Rattle.session.specs.Session.{session_with}
 use Rattle.setup.specs.Setup.{ruling_on, length_of}
 use Rattle.setup.specs.declared.Setup.{Setup}
-use Rattle.setup.specs.declared.Ruling.TheVariants.{Accepted}
 use Rattle.setup.proofs.Refusals.{accepted_length}
 use Rattle.scan.specs.Scan.{Scanned, holding, passing, handing, first, scan}
 use Rattle.scan.specs.Carry.{steps, carried_after}
@@ -27,16 +26,16 @@ use Rattle.admission.proofs.Soundness.{sound_facts}
 use Rattle.admission.proofs.PieceRulings.{admitted}
 use Rattle.feeding.specs.Feed.{consumer, session_of}
 use Rattle.feeding.proofs.BySetup.{after_datagram}
-use Rattle.whole_piece.specs.declared.Received.TheVariants.{Lines}
 use Rattle.lines.specs.declared.Progress.{Progress}
 use Rattle.whole_piece.specs.Lines.{behind_by}
 use Rattle.whole_piece.specs.NextLines.{next_line, text_of}
 use Rattle.lines.specs.PieceParts.{start_of, next_of, stopped, batch_by, Ready, scan_at, Finished, Answered, Permitted}
 use Rattle.whole_piece.proofs.NextLines.{few_of, right_next, line_short, text_none, text_more}
+use Rattle.std.specs.Prelude.{Ok}
 
 -- ---- the scan by what find tells
 
-module _ (u : Setup) (a : ruling_on u ≡ Accepted) (v : List ℕ) (n : ℕ) where
+module _ (u : Setup) (a : ruling_on u ≡ Ok tt) (v : List ℕ) (n : ℕ) where
   pub scan_complete :
       {size : ℕ} → IsComplete u v n size
       → scan (verdict_of u) v ≡ passing n (handing (take size (drop n v)) (scan (verdict_of u) (drop (n + size) v)))
@@ -195,10 +194,10 @@ ready_start s p room a =
     }
 
 pub answered_finished :
-    (s : Session) (at used : ℕ) (p b b' : List ℕ) (r : Progress) (t : Session) → ruling_on s.setup ≡ Accepted
+    (s : Session) (at used : ℕ) (p b b' : List ℕ) (r : Progress) (t : Session) → ruling_on s.setup ≡ Ok tt
     → Finished s.setup (start_of s at used) p b b' r
     → t ≡ session_with s.setup r.history r.passed (s.fed + (length p - at)) (take 64 (take (length p - r.at) (drop r.at p)))
-    → Answered s used (scan_at s.setup p at) (length p - at) b b' (record { answer = Lines r.used; session = t })
+    → Answered s used (scan_at s.setup p at) (length p - at) b b' (record { answer = Ok r.used; session = t })
 unfolding batch_by
 answered_finished s at used p b b' r t a T e =
     let rest = take (length p - r.at) (drop r.at p) in
@@ -207,7 +206,7 @@ answered_finished s at used p b b' r t a T e =
     let session : t ≡ session_of s.setup (behind_by s (scan_at s.setup p at) (length p - at)) =
     e ∙ λ i. session_with s.setup (T.kept i) (T.passed i) (s.fed + (length p - at)) (held i) in
     record {
-      batch = λ i. record { answer = Lines (T.used i); session = session i };
+      batch = λ i. record { answer = Ok (T.used i); session = session i };
       text = T.text;
       fits = omega (arith, T.used, T.fits);
     }

@@ -1,12 +1,9 @@
 -- A helper of proofs, no rule of 01: what the functions that write the lines of a piece hand on from one to the next.
-use Rattle.std.specs.Prelude.{ℕ, ◌+◌, ◌-◌, ◌*◌, ◌≤◌, ◌<◌, true, List, ◌≡◌, length, drop}
+use Rattle.std.specs.Prelude.{ℕ, ◌+◌, ◌-◌, ◌*◌, ◌≤◌, ◌<◌, true, List, ◌≡◌, length, drop, Ok}
 use Rattle.std.proofs.lemmas.List.Edits.{sets}
 use Rattle.setup.specs.Setup.{ruling_on, length_of}
 use Rattle.setup.specs.declared.Setup.{Setup}
-use Rattle.setup.specs.declared.Ruling.TheVariants.{Accepted}
-use Rattle.setup.specs.Sensor.{sensor_of}
 use Rattle.shown_line.specs.ShownLine.{longest_line}
-use Rattle.text.specs.TextLine.{shown_by}
 use Rattle.scan.specs.Scan.{Scanned, scan}
 use Rattle.scan.specs.Carry.{steps, carried_after}
 use Rattle.search.specs.Search.{limits_of, rules_of, verdict_of}
@@ -16,14 +13,8 @@ use Rattle.session.specs.declared.Session.{Session}
 use Rattle.feeding.specs.Feed.{consumer, state_of, session_of}
 use Rattle.whole_piece.specs.Lines.{behind_by, room_for}
 use Rattle.whole_piece.specs.NextLines.{next_line, text_of}
-use Rattle.whole_piece.specs.declared.Received.TheVariants.{Lines}
 use Rattle.whole_piece.specs.declared.Batch.{Batch}
-use Rattle.lines.specs.declared.LookedUp.{LookedUp}
 use Rattle.lines.specs.declared.Progress.{Progress}
-
--- what is looked up once for a piece
-abbrev pub looked_up : Setup → LookedUp
-looked_up u = record { setup = u; sensor = sensor_of u; shown = shown_by u }
 
 -- what a session has at a place in a piece, so many bytes being written
 abbrev pub start_of : Session → ℕ → ℕ → Progress
@@ -47,13 +38,13 @@ stopped x n = record { history = x.history; passed = x.passed + n; at = x.at + n
 unfoldable pub batch_by : Session → ℕ → Scanned → ℕ → Batch
 batch_by s used g n =
     record {
-      answer = Lines (used + length (text_of s.setup (state_of s).carried g));
+      answer = Ok (used + length (text_of s.setup (state_of s).carried g));
       session = session_of s.setup (behind_by s g n);
     }
 
 -- a piece of `end` bytes can be gone through from there on: its counts stay in range, and its lines find room
 pub record Ready (u : Setup) (x : Progress) (end room : ℕ) : Type 0 where
-  pub accepted : ruling_on u ≡ Accepted
+  pub accepted : ruling_on u ≡ Ok tt
   pub within : x.at ≤ end
   pub most : end ≤ (limits_of u).piece
   pub kept : kept_right u x.history ≡ true
@@ -85,5 +76,5 @@ pub record Answered (s : Session) (used : ℕ) (g : Scanned) (n : ℕ) (b b' : L
 
 -- nothing refuses a piece of n bytes, whatever lines it has
 pub record Permitted (s : Session) (n room : ℕ) : Type 0 where
-  pub admitted : piece_ruling s n ≡ Accepted
+  pub admitted : piece_ruling s n ≡ Ok tt
   pub enough : room_for n ≤ room

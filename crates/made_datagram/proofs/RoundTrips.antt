@@ -16,9 +16,7 @@ use Rattle.setup.specs.Layout.{Part, identifier, gyro, accelerometer, inclinomet
 use Rattle.setup.specs.Layout.{inclinometer_temperatures, aux, counter, latency, widths, bytes, place, carries, parts_of, row_at}
 use Rattle.setup.specs.Setup.{ruling_on, terminated, length_of}
 use Rattle.setup.specs.declared.Row.{Row}
-use Rattle.setup.specs.declared.Listing.TheVariants.{Listed}
 use Rattle.setup.specs.declared.Setup.{Setup}
-use Rattle.setup.specs.declared.Ruling.TheVariants as ruling
 use Rattle.setup.proofs.Rows.{every_row}
 use Rattle.setup.proofs.Layouts.{same_part}
 use Rattle.setup.proofs.Refusals as refusals
@@ -35,6 +33,7 @@ use Rattle.made_datagram.specs.RoundTrip.{Shaped, RoundTrip}
 use Rattle.made_datagram.proofs.ListedRows.{row_outside, row_datagram}
 use Rattle.made_datagram.proofs.InTurn.{written_read, in_turn_same, distinct, read_written}
 use Rattle.made_datagram.proofs.PartValues.{parts_length, read_as, given_length, part_widths, part_back, part_zero, part_read, read_carried, read_absent, read_passes, read_again, given_read}
+use Rattle.std.specs.Prelude.{Some, Ok}
 
 -- ---- 15 of each part
 
@@ -101,7 +100,7 @@ parts_bytes values (p ∷ ps) = bytes_append (bytes_joined (widths p) (values p)
 
 -- ---- a setup whose identifier has a row
 
-module _ (u : Setup) (r : Row) (listed : row_at u.identifier ≡ Listed r) (termination : u.termination ≤ 1) where
+module _ (u : Setup) (r : Row) (listed : row_at u.identifier ≡ Some r) (termination : u.termination ≤ 1) where
   abbrev i : ℕ
   i = u.identifier
 
@@ -281,7 +280,7 @@ contents_shaped ps d =
 
 -- ---- of every setup that is not refused
 
-pub round_trip : (u : Setup) → ruling_on u ≡ ruling.Accepted → RoundTrip u
+pub round_trip : (u : Setup) → ruling_on u ≡ Ok tt → RoundTrip u
 unfolding contents_of
 round_trip u ok =
     let k = refusals.accepted u ok in

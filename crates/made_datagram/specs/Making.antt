@@ -1,6 +1,6 @@
 -- 02, 2.1: a datagram written from a setup and values, over the list of parts with their widths that reading goes by; and what is turned down of it:
 -- 15, a value outside its field's width or not 0 in a part the identifier doesn't carry, after 4 to 9; then 16, a buffer shorter than L.
-use Rattle.std.specs.Prelude.{ℕ, Bool, false, not, ◌||◌, cond, List, [], ◌∷◌, ◌++◌, map, ltb, ℤ, pos, length, get_or}
+use Rattle.std.specs.Prelude.{ℕ, Bool, false, not, ◌||◌, cond, List, [], ◌∷◌, ◌++◌, map, ltb, ℤ, pos, length, get_or, Result, Ok, Err}
 use Rattle.std.proofs.Math.Option.{Option, none, some}
 use Rattle.integers.specs.Bytes.{Sign, signed, unsigned, value_bytes, joined}
 use Rattle.integers.specs.Ranges.{is_zero, fits}
@@ -9,14 +9,13 @@ use Rattle.setup.specs.Layout.{inclinometer_temperatures, aux, counter, latency,
 use Rattle.setup.specs.Setup.{Rule, rule, first_of, buffer_by, setup_rules, terminated, length_of}
 use Rattle.setup.specs.Sensor.{row_of}
 use Rattle.setup.specs.declared.Setup.{Setup}
-use Rattle.setup.specs.declared.Ruling as ruling
-use Rattle.setup.specs.declared.Ruling.{Ruling}
 use Rattle.wire.specs.Fields.{Contents, besides_readings}
 use Rattle.wire.specs.declared.Fields.{Fields}
 use Rattle.acceptance.specs.Acceptable.{completed}
 use Rattle.made_datagram.specs.declared.Values.{Values}
-use Rattle.made_datagram.specs.declared.Made.{Made}
-use Rattle.made_datagram.specs.declared.Made.TheVariants.{Datagram, Refused}
+use Rattle.refusals.specs.Refusals.{number_of, Ruling, unless_refused}
+use Rattle.refusals.specs.declared.Refusal.{Refusal}
+use Rattle.refusals.specs.declared.Refusal.TheVariants.{DatagramOutside, DatagramRoom}
 
 -- ---- the values
 
@@ -129,7 +128,7 @@ outside u readings v = outside_in (parts_at u.identifier) (given u.identifier re
 
 -- 15, and then 16, a buffer of `room` bytes that is shorter than L
 unfoldable pub own_rules : Setup → List (List ℤ) → Values → ℕ → List Rule
-own_rules u readings v room = rule 15 (outside u readings v) ∷ rule 16 (ltb room (length_of u)) ∷ []
+own_rules u readings v room = rule DatagramOutside (outside u readings v) ∷ rule DatagramRoom (ltb room (length_of u)) ∷ []
 
 -- those of the setup come first
 unfoldable pub making_rules : Setup → List (List ℤ) → Values → ℕ → List Rule
@@ -137,26 +136,21 @@ making_rules u readings v room = setup_rules u ++ own_rules u readings v room
 
 -- ---- the answer and the buffer
 
--- the answer: the number of the rule that refuses, or the length L
-abbrev pub made_by : Ruling → ℕ → Made
-made_by ruling.TheVariants.Accepted long = Datagram long
-made_by (ruling.TheVariants.Refused number) long = Refused number
+-- the answer is the length L, or what refuses; what each case of it stands for: the number of what refused, and how many bytes were written
+abbrev pub made_number : Result ℕ Refusal → Option ℕ
+made_number (Ok long) = none
+made_number (Err e) = some (number_of e)
 
--- what each case of it stands for: the number that refused, and how many bytes were written
-abbrev pub made_number : Made → Option ℕ
-made_number (Datagram long) = none
-made_number (Refused number) = some number
-
-abbrev pub made_bytes : Made → ℕ
-made_bytes (Datagram long) = long
-made_bytes (Refused number) = 0
+abbrev pub made_bytes : Result ℕ Refusal → ℕ
+made_bytes (Ok long) = long
+made_bytes (Err e) = 0
 
 module _ (b : List ℕ) (u : Setup) (readings : List (List ℤ)) (v : Values) where
   unfoldable pub making_ruling : Ruling
   making_ruling = first_of (making_rules u readings v (length b))
 
-  unfoldable pub made_answer : Made
-  made_answer = made_by making_ruling (length_of u)
+  unfoldable pub made_answer : Result ℕ Refusal
+  made_answer = unless_refused making_ruling (length_of u)
 
   -- the datagram from the front and every later byte as it was, or all as it was
   unfoldable pub made_buffer : List ℕ

@@ -1,5 +1,5 @@
 #![tactic(auto)]
-// What a datagram is written from, and what comes back of writing one: no code (02, 2.1).
+// What a datagram is written from: no code (02, 2.1).
 
 // What a datagram is to carry beside its readings; 0 for what its identifier doesn't carry. The numbers are wider than the fields, so that each reaches
 // its check unnarrowed.
@@ -16,11 +16,4 @@ pub struct Values {
     pub aux_status: i32,
     pub counter: i32,
     pub latency: i32,
-}
-
-// The bytes of the datagram that was written, or the number that refused it.
-#[derive(Clone, Copy)]
-pub enum Made {
-    Datagram(usize),
-    Refused(u8),
 }

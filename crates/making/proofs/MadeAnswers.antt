@@ -15,25 +15,25 @@ use Rattle.integers.proofs.Values.{in_bytes_length}
 use Rattle.crc.specs.Check.{check32}
 use Rattle.setup.specs.Layout.{Part, parts_of, Layout, layout_of, length_in}
 use Rattle.setup.specs.Setup.{first_of, buffer_by, setup_rules, ruling_on}
-use Rattle.setup.specs.Sensor.{sensor_of}
+use Rattle.setup.specs.Sensor.{sensor_of, description_of}
 use Rattle.setup.specs.declared.Row.{Row}
 use Rattle.setup.specs.declared.Sensor.{Sensor}
 use Rattle.setup.specs.declared.Setup.{Setup}
-use Rattle.setup.specs.declared.Ruling.{Ruling}
-use Rattle.setup.specs.declared.Ruling.TheVariants as ruling
 use Rattle.setup.proofs.Layouts.{length_parts}
 use Rattle.setup.proofs.Refusals.{listed_length}
 use Rattle.setup.proofs.Rules.{first_accepted, first_refused}
 use Rattle.setup.proofs.Sensors.{sensor_row}
 use Rattle.acceptance.proofs.Completed.{completed_by}
-use Rattle.made_datagram.specs.Making.{given, parts_with, datagram_in, outside_in, own_rules, making_rules, made_by, making_ruling, made_answer, made_buffer}
+use Rattle.made_datagram.specs.Making.{given, parts_with, datagram_in, outside_in, own_rules, making_rules, making_ruling, made_answer, made_buffer}
 use Rattle.making.specs.Writing.{ending_bytes, last_rules, answer_by, buffer_of}
 use Rattle.made_datagram.specs.declared.Values.{Values}
-use Rattle.made_datagram.specs.declared.Made.{Made}
-use Rattle.made_datagram.specs.declared.Made.TheVariants.{Datagram, Refused}
 use Rattle.made_datagram.proofs.ListedRows.{row_outside, row_datagram}
 use Rattle.made_datagram.proofs.PartValues.{parts_length}
 use Rattle.making.proofs.ValueWriting.{ending_length}
+use Rattle.std.specs.Prelude.{Result, Ok, Err}
+use Rattle.refusals.specs.Refusals.{Ruling, unless_refused, and_then}
+use Rattle.refusals.specs.declared.Refusal.{Refusal}
+use Rattle.refusals.specs.declared.Refusal.TheVariants.{DatagramOutside, DatagramRoom}
 
 -- ---- a datagram of a layout
 
@@ -99,35 +99,35 @@ module _ (b : List ℕ) (i : ℕ) (r : Row) (t : Bool) (readings : List (List �
   abbrev l : Layout
   l = layout_of r t
 
-  pub values_refused : outside_in (parts_of r) (given i readings v) ≡ true → (Refused 15 ≡ answer_by b i l readings v) × (b ≡ buffer_of b i l readings v)
+  pub values_refused : outside_in (parts_of r) (given i readings v) ≡ true → (Err DatagramOutside ≡ answer_by b i l readings v) × (b ≡ buffer_of b i l readings v)
   unfolding answer_by buffer_of last_rules
   values_refused h = rw h (refl, refl)
 
   module _ (h : outside_in (parts_of r) (given i readings v) ≡ false) where
-    pub room_refused : length b < length_in l → (Refused 16 ≡ answer_by b i l readings v) × (b ≡ buffer_of b i l readings v)
+    pub room_refused : length b < length_in l → (Err DatagramRoom ≡ answer_by b i l readings v) × (b ≡ buffer_of b i l readings v)
     unfolding answer_by buffer_of last_rules
     room_refused s = rw (h, lt-ltb (length b) (length_in l) s) (refl, refl)
 
     pub datagram_written : {b1 : List ℕ} {n : ℕ} → length_in l ≤ length b → Put b 0 (datagram_in l (given i readings v)) b1 n
-        → (Datagram n ≡ answer_by b i l readings v) × (b1 ≡ buffer_of b i l readings v)
+        → (Ok n ≡ answer_by b i l readings v) × (b1 ≡ buffer_of b i l readings v)
     unfolding answer_by buffer_of last_rules
     datagram_written s p =
         let long = datagram_length i r t readings v in
         rw (h, le-ltb (length b) (length_in l) s)
-        (ap Datagram (p.place ∙ zero-add (length (datagram_in l (given i readings v))) ∙ long), p.bytes ∙ put_front b (datagram_in l (given i readings v)) (omega arith))
+        (ap Ok (p.place ∙ zero-add (length (datagram_in l (given i readings v))) ∙ long), p.bytes ∙ put_front b (datagram_in l (given i readings v)) (omega arith))
 
 -- ---- a setup
 
 module _ (b : List ℕ) (u : Setup) (readings : List (List ℤ)) (v : Values) where
-  pub setup_refused : {n : ℕ} → ruling_on u ≡ ruling.Refused n → (Refused n ≡ made_answer b u readings v) × (b ≡ made_buffer b u readings v)
+  pub setup_refused : {e : Refusal} → ruling_on u ≡ Err e → (Err e ≡ made_answer b u readings v) × (b ≡ made_buffer b u readings v)
   unfolding made_answer made_buffer making_ruling making_rules ruling_on
-  setup_refused {n} e =
-      let r : making_ruling b u readings v ≡ ruling.Refused n =
-      first_refused (setup_rules u) (own_rules u readings v (length b)) e in
+  setup_refused {e} q =
+      let r : making_ruling b u readings v ≡ Err e =
+      first_refused (setup_rules u) (own_rules u readings v (length b)) q in
       rw r (refl, refl)
 
   -- an accepted one is judged by 15 and 16 alone
-  module _ (e : ruling_on u ≡ ruling.Accepted) where
+  module _ (e : ruling_on u ≡ Ok tt) where
     abbrev s : Sensor
     s = sensor_of u
 
@@ -139,16 +139,32 @@ module _ (b : List ℕ) (u : Setup) (readings : List (List ℤ)) (v : Values) wh
 
     sensor_answer : answer_by b s.identifier (layout_of s.row s.terminated) readings v ≡ made_answer b u readings v
     unfolding answer_by made_answer sensor_of
-    sensor_answer = ap₂ made_by last_ruling (sym (listed_length u (sensor_row u e)))
+    sensor_answer = ap₂ (λ (j : Ruling) (n : ℕ). unless_refused j n) last_ruling (sym (listed_length u (sensor_row u e)))
 
     sensor_buffer : buffer_of b s.identifier (layout_of s.row s.terminated) readings v ≡ made_buffer b u readings v
     unfolding buffer_of made_buffer sensor_of
     sensor_buffer = ap₂ (λ (j : Ruling) (d : List ℕ). buffer_by j d b) last_ruling (sym (row_datagram u (sensor_row u e) readings v))
 
-    pub accepted_made : {w : Sensor} {m : Made} {b1 : List ℕ} → w ≡ s
-        → (m ≡ answer_by b w.identifier (layout_of w.row w.terminated) readings v) × (b1 ≡ buffer_of b w.identifier (layout_of w.row w.terminated) readings v)
-        → (m ≡ made_answer b u readings v) × (b1 ≡ made_buffer b u readings v)
-    accepted_made same p = (
-      p.0 ∙ ap (λ (x : Sensor). answer_by b x.identifier (layout_of x.row x.terminated) readings v) same ∙ sensor_answer,
-      p.1 ∙ ap (λ (x : Sensor). buffer_of b x.identifier (layout_of x.row x.terminated) readings v) same ∙ sensor_buffer,
-    )
+  -- the setup first, and then the values and the room
+  abbrev buffer_with : Result Sensor Refusal → List ℕ
+  buffer_with (Ok w) = buffer_of b w.identifier (layout_of w.row w.terminated) readings v
+  buffer_with (Err e) = b
+
+  pub made_in_turn :
+      made_answer b u readings v ≡ and_then (description_of u) (λ (w : Sensor). answer_by b w.identifier (layout_of w.row w.terminated) readings v)
+  unfolding description_of
+  made_in_turn = by (ruling_on u) refl
+    where
+      by :
+          (j : Ruling) → ruling_on u ≡ j
+          → made_answer b u readings v ≡ and_then (unless_refused j (sensor_of u)) (λ (w : Sensor). answer_by b w.identifier (layout_of w.row w.terminated) readings v)
+      by (Ok tt) q = sym (sensor_answer q)
+      by (Err e) q = sym (setup_refused q).0
+
+  pub buffer_in_turn : made_buffer b u readings v ≡ buffer_with (description_of u)
+  unfolding description_of
+  buffer_in_turn = by (ruling_on u) refl
+    where
+      by : (j : Ruling) → ruling_on u ≡ j → made_buffer b u readings v ≡ buffer_with (unless_refused j (sensor_of u))
+      by (Ok tt) q = sym (sensor_buffer q)
+      by (Err e) q = sym (setup_refused q).1

@@ -1,57 +1,78 @@
--- A value as the code writes it: the residue from the sign and the size, and its bytes.
-use Prim.Native.Nat.{ℕ, suc, ◌+◌, ◌-◌, ◌/◌, ◌%◌, ◌≤◌, ◌<◌}
+-- A value as the code writes it: the last bytes of its four.
+use Prim.Native.Nat.{ℕ, zero, suc, ◌+◌, ◌-◌, ◌/◌, ◌%◌, ◌^◌, ◌≤◌}
 use native.Mathlib.Omega.{arith}
 use mathlib.Core.Bool.{Bool, true, false, cond}
-use mathlib.Core.List.{List}
-use mathlib.Core.Path.{◌≡◌, refl}
-use lib.IntN.{ℤ, pos, negsuc, nat_abs}
-use lib.ListN.{length, set}
+use mathlib.Core.List.{List, [], ◌∷◌, append_assoc}
+use mathlib.Core.Logic.{◌⊎◌, inl, inr}
+use mathlib.Core.Path.{◌≡◌, refl, sym, ◌∙◌}
+use borrow.Rule.Slice.PartMut.{put_mid}
+use lib.IntN.{ℤ, pos, negsuc}
+use lib.ListN.{length, take, drop, set}
+use lib.Seq.{drop-drop, sets-eq}
+use mir.Syntax.{w32}
+use mir.Val.{SFits, of_z}
 use Rattle.integers.specs.Buffers.{Put}
 use Rattle.integers.specs.Bytes.{in_bytes, value_bytes}
 use Rattle.integers.specs.Rounding.{residue}
-use Rattle.integers.proofs.Buffers.{put_none, put_byte, put_two, put_three, put_four}
-use Rattle.integers.proofs.Parts.{pos_part, neg_part}
+use Rattle.integers.proofs.Buffers.{put_none, put_two}
 use Rattle.making.specs.Writing.{ending_bytes}
 
--- ---- the residue
+-- ---- bytes copied into a part of the buffer
 
-pub residue_below_zero : (z : ℤ) (m : ℕ) → pos_part z < neg_part z → m - 1 - (nat_abs z - 1) % m ≡ residue z m
-residue_below_zero (pos a) m h = absurd (omega arith)
-residue_below_zero (negsuc a) m h = let e : suc a - 1 ≡ a = omega arith in rw e (omega arith)
+pub put_copied :
+    {b text e : List ℕ} {at n : ℕ} → at + length text ≤ length b → n ≡ length text → e ≡ text
+    → Put b at text (put_mid at (at + n - at) b e) (at + n)
+put_copied {b} {text} {e} {at} {n} h l same =
+    let m : at + n - at ≡ length text = omega arith in
+    record {
+      place = omega arith;
+      bytes = rw (m, same, drop-drop (length text) at b) (sym (append_assoc (take at b) text (drop (at + length text) b)) ∙ sym (sets-eq text b at h));
+    }
 
-pub residue_from_zero : (z : ℤ) (m : ℕ) → neg_part z ≤ pos_part z → nat_abs z % m ≡ residue z m
-residue_from_zero (pos a) m h = refl
-residue_from_zero (negsuc a) m h = absurd (omega arith)
+-- ---- a value is the last bytes of its four
 
--- ---- its bytes
+abbrev pub four : ℕ → List ℕ
+four n = n / 16777216 % 256 ∷ n / 65536 % 256 ∷ n / 256 % 256 ∷ n % 256 ∷ []
 
-module _ {b : List ℕ} {at n w : ℕ} (z : ℤ) where
-  pub put_one_byte : w ≡ 1 → n ≡ residue z 256 → Put b at (value_bytes w z) (set b at (n % 256)) (at + 1)
-  unfolding value_bytes in_bytes
-  put_one_byte e f =
-      let x : n / 1 % 256 ≡ n % 256 = omega arith in
-      rw (e, ← f, x) put_byte
-
-  pub put_two_bytes : w ≡ 2 → n ≡ residue z 65536 → Put b at (value_bytes w z) (set (set b at (n / 256 % 256)) (at + 1) (n % 256)) (at + 2)
-  unfolding value_bytes in_bytes
-  put_two_bytes e f =
-      let x : n / 1 % 256 ≡ n % 256 = omega arith in
-      rw (e, ← f, x) put_two
-
-  pub put_three_bytes : w ≡ 3 → n ≡ residue z 16777216
-      → Put b at (value_bytes w z) (set (set (set b at (n / 65536 % 256)) (at + 1) (n / 256 % 256)) (at + 2) (n % 256)) (at + 3)
-  unfolding value_bytes in_bytes
-  put_three_bytes e f =
-      let x : n / 1 % 256 ≡ n % 256 = omega arith in
-      rw (e, ← f, x) put_three
-
--- ---- the check and the ending
-
-pub put_check_bytes :
-    {b : List ℕ} {at n m : ℕ} → n ≡ m
-    → Put b at (in_bytes 4 m) (set (set (set (set b at (n / 16777216 % 256)) (at + 1) (n / 65536 % 256)) (at + 2) (n / 256 % 256)) (at + 3) (n % 256)) (at + 4)
+pub four_in_bytes : (n : ℕ) → four n ≡ in_bytes 4 n
 unfolding in_bytes
-put_check_bytes {n} e = let x : n / 1 % 256 ≡ n % 256 = omega arith in rw (← e, x) put_four
+four_in_bytes n = let x : n / 1 % 256 ≡ n % 256 = omega arith in rw x
+
+-- a smaller width takes the lower bytes
+lower : (z : ℤ) (k : ℕ) → (k ≡ 256) ⊎ ((k ≡ 65536) ⊎ (k ≡ 16777216)) → residue z (2 ^ 32) % k ≡ residue z k
+lower (pos a) k (inl e) = rw e (omega arith)
+lower (pos a) k (inr (inl e)) = rw e (omega arith)
+lower (pos a) k (inr (inr e)) = rw e (omega arith)
+lower (negsuc a) k (inl e) = rw e (omega arith)
+lower (negsuc a) k (inr (inl e)) = rw e (omega arith)
+lower (negsuc a) k (inr (inr e)) = rw e (omega arith)
+
+pub last_bytes : (w : ℕ) (z : ℤ) → 1 ≤ w → w ≤ 3 → take (4 - (4 - w)) (drop (4 - w) (four (residue z (2 ^ 32)))) ≡ value_bytes w z
+unfolding value_bytes in_bytes
+last_bytes zero z h l = absurd (omega arith)
+last_bytes (suc zero) z h l =
+    let r = lower z 256 (inl refl) in
+    let x : residue z (2 ^ 32) % 256 ≡ residue z 256 / 1 % 256 = omega arith in
+    rw x
+last_bytes (suc (suc zero)) z h l =
+    let r = lower z 65536 (inr (inl refl)) in
+    let x : residue z (2 ^ 32) % 256 ≡ residue z 65536 / 1 % 256 = omega arith in
+    let y : residue z (2 ^ 32) / 256 % 256 ≡ residue z 65536 / 256 % 256 = omega arith in
+    rw (x, y)
+last_bytes (suc (suc (suc zero))) z h l =
+    let r = lower z 16777216 (inr (inr refl)) in
+    let x : residue z (2 ^ 32) % 256 ≡ residue z 16777216 / 1 % 256 = omega arith in
+    let y : residue z (2 ^ 32) / 256 % 256 ≡ residue z 16777216 / 256 % 256 = omega arith in
+    let t : residue z (2 ^ 32) / 65536 % 256 ≡ residue z 16777216 / 65536 % 256 = omega arith in
+    rw (x, y, t)
+last_bytes (suc (suc (suc (suc w)))) z h l = absurd (omega arith)
+
+-- the machine's bits of a number
+pub bits_residue : (z : ℤ) → SFits w32 z → of_z w32 z ≡ residue z (2 ^ 32)
+bits_residue (pos a) f = let h = f.sfits in let e : a % 4294967296 ≡ a = omega arith in sym e
+bits_residue (negsuc a) f = let h = f.sfits in let e : a % 4294967296 ≡ a = omega arith in rw e
+
+-- ---- the ending
 
 module _ {terminated : Bool} where
   pub ending_none : {b : List ℕ} {at : ℕ} → terminated ≡ false → Put b at (ending_bytes terminated) b at

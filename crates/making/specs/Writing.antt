@@ -1,12 +1,21 @@
 -- A helper of proofs, no rule of 02: what the functions that judge and write parts of a datagram answer, by the row of the sensor.
-use Rattle.std.specs.Prelude.{ℕ, Bool, true, ◌&&◌, ◌||◌, cond, List, [], ◌∷◌, ◌++◌, ltb, ℤ, pos, length, get_or}
+use Rattle.std.specs.Prelude.{ℕ, Bool, true, ◌&&◌, ◌||◌, cond, List, [], ◌∷◌, ◌++◌, ltb, ℤ, pos, length, get_or, Result}
 use Rattle.integers.specs.Bytes.{signed, unsigned, joined}
 use Rattle.setup.specs.Layout.{Layout, length_in}
 use Rattle.setup.specs.Setup.{Rule, rule, first_of, buffer_by}
 use Rattle.setup.specs.declared.Row.{Row}
-use Rattle.made_datagram.specs.Making.{axes_and_status, given, fields_for, datagram_in, any_outside, any_not_zero, outside_in, made_by}
+use Rattle.made_datagram.specs.Making.{axes_and_status, given, fields_for, datagram_in, any_outside, any_not_zero, outside_in}
 use Rattle.made_datagram.specs.declared.Values.{Values}
-use Rattle.made_datagram.specs.declared.Made.{Made}
+use Rattle.making.specs.declared.Width.{Width}
+use Rattle.making.specs.declared.Width.TheVariants.{Temperature, Reading}
+use Rattle.refusals.specs.Refusals.{unless_refused}
+use Rattle.refusals.specs.declared.Refusal.{Refusal}
+use Rattle.refusals.specs.declared.Refusal.TheVariants.{DatagramOutside, DatagramRoom}
+
+-- the bytes of an axis
+abbrev pub size_of : Width → ℕ
+size_of Temperature = 2
+size_of Reading = 3
 
 -- a group or a temperature set, of X, Y and Z of w bytes and a status
 unfoldable pub axes_outside : Bool → ℕ → List ℤ → ℤ → Bool
@@ -50,10 +59,10 @@ ending_bytes terminated = cond terminated (0x0D ∷ 0x0A ∷ []) []
 -- a datagram that only 15 and 16 are left to refuse
 module _ (b : List ℕ) (i : ℕ) (l : Layout) (readings : List (List ℤ)) (v : Values) where
   unfoldable pub last_rules : List Rule
-  last_rules = rule 15 (outside_in l.parts (given i readings v)) ∷ rule 16 (ltb (length b) (length_in l)) ∷ []
+  last_rules = rule DatagramOutside (outside_in l.parts (given i readings v)) ∷ rule DatagramRoom (ltb (length b) (length_in l)) ∷ []
 
-  unfoldable pub answer_by : Made
-  answer_by = made_by (first_of last_rules) (length_in l)
+  unfoldable pub answer_by : Result ℕ Refusal
+  answer_by = unless_refused (first_of last_rules) (length_in l)
 
   unfoldable pub buffer_of : List ℕ
   buffer_of = buffer_by (first_of last_rules) (datagram_in l (given i readings v)) b

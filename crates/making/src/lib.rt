@@ -1,59 +1,82 @@
 #![tactic(auto)]
 // Datagrams written from values (02, 2.1).
-ghost use Rattle.std.specs.Prelude.{◌≡◌, [], ◌∷◌, ◌+◌, ◌≤◌, ◌<◌, length, take};
+ghost use Rattle.std.specs.Prelude.{◌≡◌, [], ◌∷◌, ◌+◌, ◌≤◌, length, take};
 ghost use Rattle.integers.specs.Buffers.{Put};
 ghost use Rattle.integers.specs.Bytes.{signed, unsigned, in_bytes, value_bytes};
 ghost use Rattle.integers.specs.Ranges.{is_zero, fits};
-ghost use Rattle.integers.specs.Rounding.{residue};
 ghost use Rattle.crc.specs.Check.{check32};
 ghost use Rattle.setup.specs.Layout.{aux, bytes, parts_of, layout_of, length_in};
 ghost use Rattle.made_datagram.specs.Making.{given, parts_with, datagram_in, part_outside, outside_in, made_answer, made_buffer};
-ghost use Rattle.making.specs.Writing.{axes_outside, axes_bytes, aux_bytes, groups_outside, groups_bytes, temperatures_outside, temperatures_bytes, ending_bytes, answer_by, buffer_of};
+ghost use Rattle.making.specs.Writing.{size_of, axes_outside, axes_bytes, aux_bytes, groups_outside, groups_bytes, temperatures_outside, temperatures_bytes, ending_bytes, answer_by, buffer_of};
 
-use made_datagram::{Made, Values};
-use setup::{Described, Row, Setup};
+use made_datagram::Values;
+use refusals::Refusal;
+use setup::{Row, Setup};
 
 // Bytes of the check and of the ending.
 const CHECK: usize = 4;
 
 const ENDING: usize = 2;
 
-// z is 0.
+// z is 0. `integers::is_zero` takes an i64, and with a cast its call is no plainer.
 fn is_zero(z: i32) -> bool
     ensures { result ≡ is_zero z }
 {
     z == 0
 }
 
-// z is in the width of an axis: that of a temperature, or of a reading.
-fn fits_axis(z: i32, width: usize) -> bool
-    requires { (2 ≤ width) × (width ≤ 3) }
-    ensures { result ≡ fits signed width z }
+// z is in the width of a reading.
+#[tactic(auto, unfolding(integers::specs::Ranges::fits))]
+fn fits_reading(z: i32) -> bool
+    ensures { result ≡ fits signed 3 z }
 {
-    if width == 2 {
-        return (-32768 <= z) & (z <= 32767);
-    }
     integers::fits_reading(z)
 }
 
-// z is in the width of a status or of the counter.
+// z is in the width of a temperature.
+#[tactic(auto, unfolding(integers::specs::Ranges::fits))]
+fn fits_temperature(z: i32) -> bool
+    ensures { result ≡ fits signed 2 z }
+{
+    (-32768..=32767).contains(&z)
+}
+
+// What an axis of a group or of a temperature set is; AUX is as wide as a reading. `wire` has one of its own: one for both would be public.
+#[derive(Clone, Copy)]
+enum Width {
+    Temperature,
+    Reading,
+}
+
+// z is in the width of an axis.
+fn fits_axis(z: i32, width: Width) -> bool
+    ensures { result ≡ fits signed (size_of width) z }
+{
+    match width {
+        Width::Temperature => fits_temperature(z),
+        Width::Reading => fits_reading(z),
+    }
+}
+
+// z is in the width of a status or of the counter. Each width has its range in a function of its own, which is as short as a call of one for all.
+#[tactic(auto, unfolding(integers::specs::Ranges::fits))]
 fn fits_byte(z: i32) -> bool
     ensures { result ≡ fits unsigned 1 z }
 {
-    (0 <= z) & (z <= 255)
+    (0..=255).contains(&z)
 }
 
 // z is in the width of the latency.
+#[tactic(auto, unfolding(integers::specs::Ranges::fits))]
 fn fits_latency(z: i32) -> bool
     ensures { result ≡ fits unsigned 2 z }
 {
-    (0 <= z) & (z <= 65535)
+    (0..=65535).contains(&z)
 }
 
 // A value of a group or a temperature set is outside its width, or not 0 where that isn't carried.
-fn axes_outside(carried: bool, width: usize, row: [i32; 3], status: i32) -> bool
-    requires { (2 ≤ width) × (width ≤ 3) }
-    ensures { result ≡ axes_outside carried width row status }
+fn axes_outside(carried: bool, width: Width, row: [i32; 3], status: i32) -> bool
+    ensures { result ≡ axes_outside carried (size_of width) row status }
 {
     if carried {
         return !fits_axis(row[0], width)
@@ -69,7 +92,7 @@ fn aux_outside(carried: bool, value: i32, status: i32) -> bool
     ensures { result ≡ part_outside carried aux (value ∷ status ∷ []) }
 {
     if carried {
-        return !fits_axis(value, 3) | !fits_byte(status);
+        return !fits_reading(value) | !fits_byte(status);
     }
     !is_zero(value) | !is_zero(status)
 }
@@ -78,9 +101,9 @@ fn aux_outside(carried: bool, value: i32, status: i32) -> bool
 fn groups_outside(row: Row, readings: [[i32; 3]; 3], statuses: [i32; 3]) -> bool
     ensures { result ≡ groups_outside row readings statuses }
 {
-    axes_outside(true, 3, readings[0], statuses[0])
-        | axes_outside(row.acceleration, 3, readings[1], statuses[1])
-        | axes_outside(row.inclination, 3, readings[2], statuses[2])
+    axes_outside(true, Width::Reading, readings[0], statuses[0])
+        | axes_outside(row.acceleration, Width::Reading, readings[1], statuses[1])
+        | axes_outside(row.inclination, Width::Reading, readings[2], statuses[2])
 }
 
 // Of the three temperature sets.
@@ -91,16 +114,16 @@ fn temperatures_outside(row: Row, values: Values) -> bool
     let accelerometer = values.accelerometer_temperatures;
     let inclinometer = values.inclinometer_temperatures;
     let statuses = values.temperature_statuses;
-    axes_outside(row.temperatures, 2, gyro, statuses[0])
+    axes_outside(row.temperatures, Width::Temperature, gyro, statuses[0])
         | axes_outside(
             row.temperatures & row.acceleration,
-            2,
+            Width::Temperature,
             accelerometer,
             statuses[1],
         )
         | axes_outside(
             row.temperatures & row.inclination,
-            2,
+            Width::Temperature,
             inclinometer,
             statuses[2],
         )
@@ -118,43 +141,18 @@ fn values_outside(row: Row, readings: [[i32; 3]; 3], values: Values) -> bool
         | !fits_latency(values.latency)
 }
 
-// z modulo a number above 0: the remainder that is not negative.
-fn residue_of(z: i32, modulus: u32) -> u32
-    requires { 0 < modulus }
-    ensures { result ≡ residue z modulus }
-{
-    let size = integers::magnitude(z as i64) as u32;
-    if z < 0 {
-        modulus - 1 - (size - 1) % modulus
-    } else {
-        size % modulus
-    }
-}
-
-// A value in a field of one, two or three bytes; where the next field begins comes back.
+// A value in a field of one, two or three bytes: the last of its four. Where the next field begins comes back.
+// The buffer and the place stay two arguments here and below: each promise, `Put`, tells of the buffer and of both places.
 fn put_value(buffer: &mut [u8], at: usize, width: usize, z: i32) -> usize
     requires { (1 ≤ width) × (width ≤ 3) × (at + width ≤ length buffer.old) }
     ensures { Put buffer.old at (value_bytes width z) buffer.new result }
 {
-    if width == 1 {
-        let n = residue_of(z, 256);
-        buffer[at] = (n % 256) as u8;
-        return at + 1;
-    }
-    if width == 2 {
-        let n = residue_of(z, 65536);
-        buffer[at] = (n / 256 % 256) as u8;
-        buffer[at + 1] = (n % 256) as u8;
-        return at + 2;
-    }
-    let n = residue_of(z, 16777216);
-    buffer[at] = (n / 65536 % 256) as u8;
-    buffer[at + 1] = (n / 256 % 256) as u8;
-    buffer[at + 2] = (n % 256) as u8;
-    at + 3
+    let end = at + width;
+    buffer[at..end].copy_from_slice(&z.to_be_bytes()[4 - width..]);
+    end
 }
 
-// X, Y, Z and the status of a group or a temperature set, if it is carried.
+// X, Y, Z and the status of a group or a temperature set, if it is carried. The width is a number, since put_value counts with it.
 fn put_axes(
     buffer: &mut [u8],
     at: usize,
@@ -267,11 +265,9 @@ fn put_check(buffer: &mut [u8], at: usize) -> usize
     ensures { Put buffer.old at (in_bytes 4 (check32 (take at buffer.old))) buffer.new result }
 {
     let check = crc::crc32(&buffer[..at]);
-    buffer[at] = (check / 16777216 % 256) as u8;
-    buffer[at + 1] = (check / 65536 % 256) as u8;
-    buffer[at + 2] = (check / 256 % 256) as u8;
-    buffer[at + 3] = (check % 256) as u8;
-    at + CHECK
+    let end = at + CHECK;
+    buffer[at..end].copy_from_slice(&check.to_be_bytes());
+    end
 }
 
 // 0x0D 0x0A, or nothing.
@@ -304,7 +300,8 @@ fn put_datagram(
     put_ending(buffer, ending, terminated)
 }
 
-// Writes the datagram of a sensor; only 15 and 16 are left to refuse it.
+// Writes the datagram of a sensor; only 15 and 16 are left to refuse it. Readings and values come here as `write_datagram` is given them, the readings as a
+// grid (01, its last section).
 fn write_by(
     buffer: &mut [u8],
     identifier: u8,
@@ -312,37 +309,37 @@ fn write_by(
     terminated: bool,
     readings: [[i32; 3]; 3],
     values: Values,
-) -> Made
+) -> Result<usize, Refusal>
     ensures answer { result ≡ answer_by buffer.old identifier (layout_of row terminated) readings values }
     ensures written { buffer.new ≡ buffer_of buffer.old identifier (layout_of row terminated) readings values }
 {
     if values_outside(row, readings, values) {
-        return Made::Refused(15);
+        return Err(Refusal::DatagramOutside);
     }
     if buffer.len() < wire::length_of(row, terminated) {
-        return Made::Refused(16);
+        return Err(Refusal::DatagramRoom);
     }
-    Made::Datagram(put_datagram(buffer, identifier, row, terminated, readings, values))
+    Ok(put_datagram(buffer, identifier, row, terminated, readings, values))
 }
 
 // Writes the datagram of a setup with these values at the front of a buffer: 4 to 9, then 15, then 16 refuse it, and nothing is written then.
+#[tactic(auto, using(crate::proofs::MadeAnswers::made_in_turn, crate::proofs::MadeAnswers::buffer_in_turn))]
 pub fn write_datagram(
     buffer: &mut [u8],
     setup: Setup,
     readings: [[i32; 3]; 3],
     values: Values,
-) -> Made
+) -> Result<usize, Refusal>
     ensures answer { result ≡ made_answer buffer.old setup readings values }
     ensures written { buffer.new ≡ made_buffer buffer.old setup readings values }
 {
-    let described = setup::describe(setup);
-    match described {
-        Described::Accepted(sensor) => {
-            let identifier = sensor.identifier;
-            let row = sensor.row;
-            let terminated = sensor.terminated;
-            write_by(buffer, identifier, row, terminated, readings, values)
-        }
-        Described::Refused(number) => Made::Refused(number),
-    }
+    let sensor = setup::describe(setup)?;
+    write_by(
+        buffer,
+        sensor.identifier,
+        sensor.row,
+        sensor.terminated,
+        readings,
+        values,
+    )
 }

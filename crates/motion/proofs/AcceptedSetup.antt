@@ -6,12 +6,12 @@ use Rattle.setup.specs.Setup.{ruling_on}
 use Rattle.setup.specs.Sensor.{sensor_of}
 use Rattle.setup.specs.declared.Setup.{Setup}
 use Rattle.setup.specs.declared.Sensor.{Sensor}
-use Rattle.setup.specs.declared.Ruling.TheVariants.{Accepted}
 use Rattle.setup.proofs.Refusals.{absent_plain}
 use Rattle.setup.proofs.Sensors.{sensor_groups, sensor_unit}
 use Rattle.motion.specs.Totals.{keeps, groups_kept, kept_in, kept_by}
+use Rattle.std.specs.Prelude.{Ok}
 
-module _ (u : Setup) (a : ruling_on u ≡ Accepted) where
+module _ (u : Setup) (a : ruling_on u ≡ Ok tt) where
   abbrev s : Sensor
   s = sensor_of u
 

@@ -3,8 +3,8 @@
 use Rattle.std.proofs.Common.{◌≡◌, ℕ, ◌<◌, Bool, false, List, [], get_or, ℤ, refl}
 use Rattle.setup.specs.declared.Setup.{Setup}
 use Rattle.setup.proofs.Refusals.{each}
-use Rattle.motion.specs.declared.GroupAxes.{GroupAxes}
-use Rattle.motion.specs.declared.Axes.{Axes}
+use Rattle.motion.specs.Totals.{GroupAxes}
+use Rattle.motion.specs.Totals.{Axes}
 use Rattle.motion.specs.Totals.{no_axis, no_axes, kept_step, keeps, groups_kept, seen_in, seen, group_step, stepped, axis_in, axis_at}
 use Rattle.motion.specs.Totals.{total_of, totals_of, total_at}
 

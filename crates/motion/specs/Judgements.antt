@@ -1,10 +1,10 @@
 -- 02, 2.3: the judgement of an axis by its group's status byte, and the nine that come back with a datagram.
 use Rattle.std.specs.Prelude.{◌≡◌, ℕ, Bool, true, false, cond, ◌&&◌, List, [], ◌∷◌, slice_index}
+use Rattle.groups.specs.declared.PerAxis.{PerAxis}
+use Rattle.groups.specs.declared.PerGroup.{PerGroup}
 use Rattle.motion.specs.Status.{is_set, named, fit}
 use Rattle.motion.specs.declared.Judgement.{Judgement}
 use Rattle.motion.specs.declared.Judgement.TheVariants.{Fit, Integrity, StartUp, Error, Overload}
-use Rattle.motion.specs.declared.GroupJudgements.{GroupJudgements}
-use Rattle.motion.specs.declared.Judgements.{Judgements}
 
 -- ---- one axis (X 0, Y 1, Z 2)
 
@@ -39,6 +39,12 @@ is_fit Error = false
 is_fit Overload = false
 
 -- ---- the nine axes
+
+abbrev pub GroupJudgements : Type 0
+GroupJudgements = PerAxis Judgement
+
+abbrev pub Judgements : Type 0
+Judgements = PerGroup GroupJudgements
 
 -- X, Y and Z of a group by its status byte
 abbrev pub group_judgements : ℕ → GroupJudgements

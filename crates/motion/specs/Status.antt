@@ -1,5 +1,6 @@
 -- 01, Status, doubles, gaps; 02, 2.2: what the status byte of a group says (001, Table 5-23).
 use Rattle.std.specs.Prelude.{ℕ, ◌+◌, ◌/◌, ◌%◌, ◌^◌, Bool, not, ◌&&◌, ◌||◌, List, [], ◌∷◌, ◌==◌}
+use Rattle.groups.specs.declared.PerAxis.{PerAxis}
 
 -- bit k of a status byte: 7 integrity, 6 start-up, 5 outside conditions, 4 overload, 3 measurement error, 2 Z, 1 Y, 0 X
 abbrev pub bit : ℕ → ℕ → ℕ
@@ -17,8 +18,8 @@ abbrev pub named : ℕ → ℕ → Bool
 named status axis = is_set status axis || none_flagged status
 
 -- of X, Y and Z
-abbrev pub named_axes : ℕ → List Bool
-named_axes status = named status 0 ∷ named status 1 ∷ named status 2 ∷ []
+abbrev pub named_axes : ℕ → PerAxis Bool
+named_axes status = record { x = named status 0; y = named status 1; z = named status 2 }
 
 -- an axis is unfit if bit 7 or 6 is set, or if bit 3 or 4 is set and names it
 unfoldable pub unfit : ℕ → ℕ → Bool

@@ -3,20 +3,17 @@ use Rattle.std.specs.Prelude.{◌≡◌, ℕ, zero, suc, ◌-◌, ◌*◌, ◌^�
 use Rattle.integers.specs.Rounding.{floor}
 use Rattle.integers.specs.Folding.{fold}
 use Rattle.integers.specs.Ranges.{within}
+use Rattle.groups.specs.declared.PerAxis.{PerAxis}
+use Rattle.groups.specs.declared.PerGroup.{PerGroup}
 use Rattle.setup.specs.Layout.{groups_of, groups_carried}
 use Rattle.setup.specs.Setup.{unit_number}
-use Rattle.setup.specs.Sensor.{units_in}
+use Rattle.setup.specs.Sensor.{Units, units_in}
 use Rattle.setup.specs.declared.Setup.{Setup}
 use Rattle.setup.specs.declared.Row.{Row}
 use Rattle.setup.specs.declared.Unit as unit
-use Rattle.setup.specs.declared.Units.{Units}
 use Rattle.motion.specs.Status.{fit}
 use Rattle.motion.specs.declared.Axis.{Axis}
-use Rattle.motion.specs.declared.GroupAxes.{GroupAxes}
-use Rattle.motion.specs.declared.Axes.{Axes}
 use Rattle.motion.specs.declared.Total.{Total}
-use Rattle.motion.specs.declared.GroupTotals.{GroupTotals}
-use Rattle.motion.specs.declared.Totals.{Totals}
 
 -- ---- one axis
 
@@ -46,6 +43,12 @@ unfoldable pub kept_step : Bool → Axis → Sighting → Axis
 kept_step kept a d = cond (kept && within greatest_total a.total) (axis_step a d) a
 
 -- ---- the nine axes; groups are gyro 0, accelerometer 1, inclinometer 2, and axes X 0, Y 1, Z 2
+
+abbrev pub GroupAxes : Type 0
+GroupAxes = PerAxis Axis
+
+abbrev pub Axes : Type 0
+Axes = PerGroup GroupAxes
 
 -- an axis to which no fit datagram came, a group of them, and all nine
 abbrev pub no_axis : Axis
@@ -113,6 +116,12 @@ abbrev pub axis_at : Axes → ℕ → ℕ → Axis
 axis_at a group axis = axis_in (one_of a.gyro a.accelerometer a.inclinometer group) axis
 
 -- ---- what comes back
+
+abbrev pub GroupTotals : Type 0
+GroupTotals = PerAxis Total
+
+abbrev pub Totals : Type 0
+Totals = PerGroup GroupTotals
 
 abbrev pub total_of : Axis → Total
 total_of a = record { begun = a.begun; steps = a.total }

@@ -8,56 +8,38 @@ ghost use Rattle.motion.specs.Judgements.{judgement_of, group_judgements, judgem
 ghost use Rattle.motion.specs.Totals.{greatest_total, difference, fit_step, kept_step, no_axes, kept_by, group_step, stepped};
 ghost use Rattle.motion.specs.Totals.{total_of, group_totals, totals_of};
 
+use groups::{PerAxis, PerGroup};
 use setup::{Row, Unit, Units};
 
 // The greatest size of a total, 2^53: up to it every total is a double (01, Totals).
 const GREATEST_TOTAL: u64 = 9007199254740992;
 
-// What is kept of an axis: whether a fit datagram came, the last fit reading and the total.
-#[derive(Clone, Copy)]
+// What is kept of an axis: whether a fit datagram came, the last fit reading and the total. No Option: a session that is given may hold a total that has
+// not begun, and 10 turns it down (01, What is turned down).
+#[derive(Clone, Copy, Debug, PartialEq, Eq)]
 pub struct Axis {
     pub begun: bool,
     pub last: i32,
     pub total: i64,
 }
 
-#[derive(Clone, Copy)]
-pub struct GroupAxes {
-    pub x: Axis,
-    pub y: Axis,
-    pub z: Axis,
-}
+pub type GroupAxes = PerAxis<Axis>;
 
-#[derive(Clone, Copy)]
-pub struct Axes {
-    pub gyro: GroupAxes,
-    pub accelerometer: GroupAxes,
-    pub inclinometer: GroupAxes,
-}
+pub type Axes = PerGroup<GroupAxes>;
 
-// A total as it comes back with a datagram.
-#[derive(Clone, Copy)]
+// A total as it comes back with a datagram. No Option: 13 judges the steps of a total that has not begun too (01, What is turned down).
+#[derive(Clone, Copy, Debug, PartialEq, Eq)]
 pub struct Total {
     pub begun: bool,
     pub steps: i64,
 }
 
-#[derive(Clone, Copy)]
-pub struct GroupTotals {
-    pub x: Total,
-    pub y: Total,
-    pub z: Total,
-}
+pub type GroupTotals = PerAxis<Total>;
 
-#[derive(Clone, Copy)]
-pub struct Totals {
-    pub gyro: GroupTotals,
-    pub accelerometer: GroupTotals,
-    pub inclinometer: GroupTotals,
-}
+pub type Totals = PerGroup<GroupTotals>;
 
 // The judgement of an axis by its group's status byte (02, 2.3).
-#[derive(Clone, Copy)]
+#[derive(Clone, Copy, Debug, PartialEq, Eq)]
 pub enum Judgement {
     Fit,
     // bit 7
@@ -70,29 +52,20 @@ pub enum Judgement {
     Overload,
 }
 
-#[derive(Clone, Copy)]
-pub struct GroupJudgements {
-    pub x: Judgement,
-    pub y: Judgement,
-    pub z: Judgement,
-}
+pub type GroupJudgements = PerAxis<Judgement>;
 
-#[derive(Clone, Copy)]
-pub struct Judgements {
-    pub gyro: GroupJudgements,
-    pub accelerometer: GroupJudgements,
-    pub inclinometer: GroupJudgements,
-}
+pub type Judgements = PerGroup<GroupJudgements>;
 
 // Which of X, Y and Z are named by bits 3 and 4 of a status byte, where these are set (02, 2.2).
-fn named_axes(status: u8) -> [bool; 3]
+fn named_axes(status: u8) -> PerAxis<bool>
     ensures { result ≡ named_axes status }
 {
     let none_flagged = flagged_channels(status) == 0;
-    let x_named = (status / 1 % 2 == 1) | none_flagged;
-    let y_named = (status / 2 % 2 == 1) | none_flagged;
-    let z_named = (status / 4 % 2 == 1) | none_flagged;
-    [x_named, y_named, z_named]
+    PerAxis {
+        x: (status / 1 % 2 == 1) | none_flagged,
+        y: (status / 2 % 2 == 1) | none_flagged,
+        z: (status / 4 % 2 == 1) | none_flagged,
+    }
 }
 
 // Which of X, Y and Z a group's status byte leaves fit (01, Status, doubles, gaps; 02, 2.2).
@@ -102,13 +75,10 @@ pub fn fit_axes(status: u8) -> [bool; 3]
     let integrity_or_start_up = (status / 128 % 2 == 1) | (status / 64 % 2 == 1);
     let error_or_overload = (status / 8 % 2 == 1) | (status / 16 % 2 == 1);
     let named = named_axes(status);
-    let x_named = named[0];
-    let y_named = named[1];
-    let z_named = named[2];
     [
-        !(integrity_or_start_up | (error_or_overload & x_named)),
-        !(integrity_or_start_up | (error_or_overload & y_named)),
-        !(integrity_or_start_up | (error_or_overload & z_named)),
+        !(integrity_or_start_up | (error_or_overload & named.x)),
+        !(integrity_or_start_up | (error_or_overload & named.y)),
+        !(integrity_or_start_up | (error_or_overload & named.z)),
     ]
 }
 
@@ -139,26 +109,15 @@ fn judge_axis(status: u8, is_named: bool) -> Judgement
 fn group_judgements(status: u8) -> GroupJudgements
     ensures { result ≡ group_judgements status }
 {
-    let named = named_axes(status);
-    let x_named = named[0];
-    let y_named = named[1];
-    let z_named = named[2];
-    GroupJudgements {
-        x: judge_axis(status, x_named),
-        y: judge_axis(status, y_named),
-        z: judge_axis(status, z_named),
-    }
+    named_axes(status).map(|is_named| judge_axis(status, is_named))
 }
 
 // The judgements of all axes by the status bytes of the groups, as they come back with a datagram (02, 2.3).
+#[tactic(auto, unfolding(crate::specs::Judgements::judgements_of))]
 pub fn judgements_of(statuses: [u8; 3]) -> Judgements
     ensures { result ≡ judgements_of statuses }
 {
-    Judgements {
-        gyro: group_judgements(statuses[0]),
-        accelerometer: group_judgements(statuses[1]),
-        inclinometer: group_judgements(statuses[2]),
-    }
+    PerGroup::of(statuses).map(group_judgements)
 }
 
 // How many channels a status byte flags (01, Status, doubles, gaps).
@@ -172,25 +131,18 @@ pub fn flagged_channels(status: u8) -> u32
 fn is_integrated(unit: Unit) -> bool
     ensures { result ≡ (unit_number unit == 3) }
 {
-    match unit {
-        Unit::Instantaneous => false,
-        Unit::Incremental => false,
-        Unit::Average => false,
-        Unit::Integrated => true,
-    }
+    unit == Unit::Integrated
 }
 
 // Which groups keep totals: those that are carried and set to integrated (01, Totals).
+#[tactic(auto, unfolding(crate::specs::Totals::kept_by))]
 pub fn kept_groups(row: Row, units: Units) -> [bool; 3]
     ensures { result ≡ kept_by row units }
 {
-    let gyro = units.gyro;
-    let accelerometer = units.accelerometer;
-    let inclinometer = units.inclinometer;
     [
-        is_integrated(gyro),
-        row.acceleration & is_integrated(accelerometer),
-        row.inclination & is_integrated(inclinometer),
+        is_integrated(units.gyro),
+        row.acceleration & is_integrated(units.accelerometer),
+        row.inclination & is_integrated(units.inclinometer),
     ]
 }
 
@@ -198,21 +150,11 @@ pub fn kept_groups(row: Row, units: Units) -> [bool; 3]
 pub fn no_axes() -> Axes
     ensures { result ≡ no_axes }
 {
-    let axis = Axis {
+    PerGroup::each(PerAxis::each(Axis {
         begun: false,
         last: 0,
         total: 0,
-    };
-    let group = GroupAxes {
-        x: axis,
-        y: axis,
-        z: axis,
-    };
-    Axes {
-        gyro: group,
-        accelerometer: group,
-        inclinometer: group,
-    }
+    }))
 }
 
 // Whether a total is at most 2^53 in size (01, Totals).
@@ -282,32 +224,26 @@ fn kept_step(kept: bool, axis: Axis, fit: bool, reading: i32) -> Axis
 }
 
 // One datagram on the axes of one group.
+#[tactic(auto, unfolding(crate::specs::Totals::group_step))]
 fn group_step(kept: bool, axes: GroupAxes, readings: [i32; 3], status: u8) -> GroupAxes
     ensures { result ≡ group_step kept axes readings status }
 {
-    let fit = fit_axes(status);
-    let x = axes.x;
-    let y = axes.y;
-    let z = axes.z;
-    GroupAxes {
-        x: kept_step(kept, x, fit[0], readings[0]),
-        y: kept_step(kept, y, fit[1], readings[1]),
-        z: kept_step(kept, z, fit[2], readings[2]),
-    }
+    let seen = PerAxis::of(fit_axes(status)).zip(PerAxis::of(readings));
+    axes.map_with(seen, |axis, (fit, reading)| {
+        kept_step(kept, axis, fit, reading)
+    })
 }
 
 // One datagram on all axes; `kept`: which groups keep totals (01, Totals).
+#[tactic(auto, unfolding(crate::specs::Totals::stepped))]
 pub fn step(kept: [bool; 3], axes: Axes, readings: [[i32; 3]; 3], statuses: [u8; 3]) -> Axes
     ensures { result ≡ stepped kept axes readings statuses }
 {
-    let gyro = axes.gyro;
-    let accelerometer = axes.accelerometer;
-    let inclinometer = axes.inclinometer;
-    Axes {
-        gyro: group_step(kept[0], gyro, readings[0], statuses[0]),
-        accelerometer: group_step(kept[1], accelerometer, readings[1], statuses[1]),
-        inclinometer: group_step(kept[2], inclinometer, readings[2], statuses[2]),
-    }
+    let seen = PerGroup::of(readings).zip(PerGroup::of(statuses));
+    let before = PerGroup::of(kept).zip(axes);
+    before.map_with(seen, |(kept, axes), (readings, status)| {
+        group_step(kept, axes, readings, status)
+    })
 }
 
 // The total of one axis.
@@ -324,26 +260,13 @@ fn total_of(axis: Axis) -> Total
 fn group_totals(axes: GroupAxes) -> GroupTotals
     ensures { result ≡ group_totals axes }
 {
-    let x = axes.x;
-    let y = axes.y;
-    let z = axes.z;
-    GroupTotals {
-        x: total_of(x),
-        y: total_of(y),
-        z: total_of(z),
-    }
+    axes.map(total_of)
 }
 
 // The totals of all axes, as they come back with a datagram (01, Totals).
+#[tactic(auto, unfolding(crate::specs::Totals::totals_of))]
 pub fn totals_of(axes: Axes) -> Totals
     ensures { result ≡ totals_of axes }
 {
-    let gyro = axes.gyro;
-    let accelerometer = axes.accelerometer;
-    let inclinometer = axes.inclinometer;
-    Totals {
-        gyro: group_totals(gyro),
-        accelerometer: group_totals(accelerometer),
-        inclinometer: group_totals(inclinometer),
-    }
+    axes.map(group_totals)
 }

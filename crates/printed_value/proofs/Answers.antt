@@ -12,17 +12,17 @@ use lib.IntN.{ℤ, nat_abs}
 use lib.ListN.{length, drop}
 use Rattle.integers.proofs.Booleans.{or_true, or_split}
 use Rattle.setup.specs.Setup.{first_number, ruling_number}
-use Rattle.setup.specs.declared.Ruling.{Ruling}
-use Rattle.setup.specs.declared.Ruling.TheVariants as ruling
-use Rattle.setup.proofs.Rules.{first_number_lem, none_accepted, some_refused, buffer_refused, number_within, no_number}
+use Rattle.setup.proofs.Rules.{first_number_lem, none_accepted, some_refused, buffer_refused, number_within, none_applies}
 use Rattle.printed_value.specs.PrintedValue.{value_text, out_of_range, beyond, shorter, value_rules, printed_by, printed_refusal, printed_bytes, value_ruling, printed_answer, printed_buffer}
-use Rattle.printed_value.specs.declared.Printed.{Printed}
-use Rattle.printed_value.specs.declared.Printed.TheVariants.{Refused}
+use Rattle.std.specs.Prelude.{Result, Ok, Err}
+use Rattle.refusals.specs.Refusals.{Ruling}
+use Rattle.refusals.specs.declared.Refusal.{Refusal}
+use Rattle.refusals.specs.declared.Refusal.TheVariants.{PlacesOrShift, NumberTooGreat}
 
 -- the answer's number is the ruling's
 number_by : (j : Ruling) (text : List ℕ) → printed_refusal (printed_by j text) ≡ ruling_number j
-number_by ruling.Accepted text = refl
-number_by (ruling.Refused number) text = refl
+number_by (Ok tt) text = refl
+number_by (Err e) text = refl
 
 -- ---- the tests, by numbers
 
@@ -59,19 +59,19 @@ module _ (b : List ℕ) (n : ℤ) (shift places : ℕ) where
   abbrev text : List ℕ
   text = value_text n shift places
 
-  abbrev answer : Printed
+  abbrev answer : Result ℕ Refusal
   answer = printed_answer b n shift places
 
   abbrev buffer : List ℕ
   buffer = printed_buffer b n shift places
 
   -- in checking order: 17
-  pub places_refused : out_of_range shift places ≡ true → (Refused 17 ≡ answer) × (b ≡ buffer)
+  pub places_refused : out_of_range shift places ≡ true → (Err PlacesOrShift ≡ answer) × (b ≡ buffer)
   unfolding printed_answer printed_buffer value_ruling value_rules
   places_refused h = rw h (refl, refl)
 
   -- 18
-  pub number_refused : out_of_range shift places ≡ false → beyond n ≡ true → (Refused 18 ≡ answer) × (b ≡ buffer)
+  pub number_refused : out_of_range shift places ≡ false → beyond n ≡ true → (Err NumberTooGreat ≡ answer) × (b ≡ buffer)
   unfolding printed_answer printed_buffer value_ruling value_rules
   number_refused r h = rw (r, h) (refl, refl)
 
@@ -110,13 +110,13 @@ module _ (b : List ℕ) (n : ℤ) (shift places : ℕ) where
   unfolding printed_answer printed_buffer
   refused_keeps e =
       let j = value_ruling b n shift places in
-      buffer_refused j text b (some_refused j (sym (number_by j text) ∙ e))
+      buffer_refused j text b (some_refused j (sym (number_by j text) ∙ e)).1
 
   -- a text that is printed stands there whole, every later byte is as it was, and its length comes back
   pub printed_whole : printed_refusal answer ≡ none → (length text ≤ length b) × (printed_bytes answer ≡ length text) × (buffer ≡ text ++ drop (length text) b)
-  unfolding printed_answer printed_buffer value_rules
+  unfolding printed_answer printed_buffer value_ruling value_rules
   printed_whole e =
       let j = value_ruling b n shift places in
       let a = none_accepted j (sym (number_by j text) ∙ e) in
-      let l = no_number (value_rules n shift places (length b)) (sym printed_number ∙ e) in
+      let l = none_applies (value_rules n shift places (length b)) a in
       (ltb-false (length b) (length text) l.1.1.0, rw a, rw a)

@@ -1,15 +1,14 @@
 -- 02, 2.6: the text of a total or a reading over 2^shift, with so many places; and what is turned down: 17, places above 9 or shift above 31; then 18, a
 -- number beyond 2^53 in size; then 19, a lent buffer shorter than the text.
-use Rattle.std.specs.Prelude.{ℕ, zero, suc, ◌+◌, ◌*◌, ◌/◌, ◌%◌, ◌^◌, Bool, not, ◌&&◌, ◌||◌, cond, List, [], ◌∷◌, ◌++◌, eqb, ltb, ℤ, pos, negsuc, neg_ℤ, length}
+use Rattle.std.specs.Prelude.{ℕ, zero, suc, ◌+◌, ◌*◌, ◌/◌, ◌%◌, ◌^◌, Bool, not, ◌&&◌, ◌||◌, cond, List, [], ◌∷◌, ◌++◌, eqb, ltb, ℤ, pos, negsuc, neg_ℤ, length, Result, Ok, Err}
 use Rattle.std.proofs.Math.Option.{Option, none, some}
 use Rattle.integers.specs.Ranges.{within}
 use Rattle.setup.specs.Setup.{Rule, rule, first_of, buffer_by}
-use Rattle.setup.specs.declared.Ruling as ruling
-use Rattle.setup.specs.declared.Ruling.{Ruling}
 use Rattle.motion.specs.Totals.{greatest_total}
 use Rattle.shown_line.specs.Decimal.{digits}
-use Rattle.printed_value.specs.declared.Printed.{Printed}
-use Rattle.printed_value.specs.declared.Printed.TheVariants.{Text, Refused}
+use Rattle.refusals.specs.Refusals.{number_of, Ruling, unless_refused}
+use Rattle.refusals.specs.declared.Refusal.{Refusal}
+use Rattle.refusals.specs.declared.Refusal.TheVariants.{PlacesOrShift, NumberTooGreat, ValueRoom}
 
 -- ---- the printed number, counted in its last place
 
@@ -61,32 +60,31 @@ abbrev pub shorter : ℕ → List ℕ → Bool
 shorter room text = ltb room (length text)
 
 abbrev pub room_rules : List ℕ → ℕ → List Rule
-room_rules text room = rule 19 (shorter room text) ∷ []
+room_rules text room = rule ValueRoom (shorter room text) ∷ []
 
 unfoldable pub value_rules : ℤ → ℕ → ℕ → ℕ → List Rule
-value_rules n shift places room = rule 17 (out_of_range shift places) ∷ rule 18 (beyond n) ∷ room_rules (value_text n shift places) room
+value_rules n shift places room = rule PlacesOrShift (out_of_range shift places) ∷ rule NumberTooGreat (beyond n) ∷ room_rules (value_text n shift places) room
 
 -- ---- the answer and the buffer
 
--- the answer: the number of the rule that refuses, or how many bytes the text has
-abbrev pub printed_by : Ruling → List ℕ → Printed
-printed_by ruling.TheVariants.Accepted text = Text (length text)
-printed_by (ruling.TheVariants.Refused number) text = Refused number
+-- the answer: what refuses, or how many bytes the text has
+abbrev pub printed_by : Ruling → List ℕ → Result ℕ Refusal
+printed_by ruling text = unless_refused ruling (length text)
 
 -- what each case of it stands for: the number that refused, and how many bytes were written
-abbrev pub printed_refusal : Printed → Option ℕ
-printed_refusal (Text n) = none
-printed_refusal (Refused number) = some number
+abbrev pub printed_refusal : Result ℕ Refusal → Option ℕ
+printed_refusal (Ok n) = none
+printed_refusal (Err e) = some (number_of e)
 
-abbrev pub printed_bytes : Printed → ℕ
-printed_bytes (Text n) = n
-printed_bytes (Refused number) = 0
+abbrev pub printed_bytes : Result ℕ Refusal → ℕ
+printed_bytes (Ok n) = n
+printed_bytes (Err e) = 0
 
 module _ (b : List ℕ) (n : ℤ) (shift places : ℕ) where
   unfoldable pub value_ruling : Ruling
   value_ruling = first_of (value_rules n shift places (length b))
 
-  unfoldable pub printed_answer : Printed
+  unfoldable pub printed_answer : Result ℕ Refusal
   printed_answer = printed_by value_ruling (value_text n shift places)
 
   -- the text from the front and every later byte as it was, or all as it was

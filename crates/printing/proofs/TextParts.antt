@@ -17,12 +17,13 @@ use Rattle.integers.proofs.Buffers.{put_front, put_length, then_put}
 use Rattle.shown_line.specs.Decimal.{digits}
 use Rattle.printed_value.specs.PrintedValue.{last_digits, behind_whole, placed_text, value_text, out_of_range, beyond, value_rules, value_ruling, printed_answer, printed_buffer}
 use Rattle.printed_value.specs.Prints.{minus_text}
-use Rattle.printed_value.specs.declared.Printed.{Printed}
-use Rattle.printed_value.specs.declared.Printed.TheVariants.{Text, Refused}
 use Rattle.printed_value.proofs.Answers.{room_missing, room_there}
 use Rattle.printed_value.proofs.LastDigits.{last_whole, last_behind}
 use Rattle.printed_value.proofs.ValueLaws.{printed_size, behind_by_lem, behind_length, text_by_sign, sign_of}
 use Rattle.printing.specs.Writing.{fraction_length, text_of, room_answer, room_buffer}
+use Rattle.std.specs.Prelude.{Result, Ok, Err}
+use Rattle.refusals.specs.declared.Refusal.{Refusal}
+use Rattle.refusals.specs.declared.Refusal.TheVariants.{ValueRoom}
 
 -- ---- what follows the whole part
 
@@ -78,13 +79,13 @@ module _ (minus : Bool) (whole fraction places : ℕ) (b : List ℕ) (room : len
 -- ---- where only 19 is left to refuse it
 
 module _ (b text : List ℕ) where
-  pub room_short : length b < length text → (Refused 19 ≡ room_answer b text) × (b ≡ room_buffer b text)
+  pub room_short : length b < length text → (Err ValueRoom ≡ room_answer b text) × (b ≡ room_buffer b text)
   unfolding room_answer room_buffer
   room_short h = rw (room_missing (length b) text h) (refl, refl)
 
-  pub room_put : {b1 : List ℕ} {end : ℕ} → length text ≤ length b → Put b 0 text b1 end → (Text end ≡ room_answer b text) × (b1 ≡ room_buffer b text)
+  pub room_put : {b1 : List ℕ} {end : ℕ} → length text ≤ length b → Put b 0 text b1 end → (Ok end ≡ room_answer b text) × (b1 ≡ room_buffer b text)
   unfolding room_answer room_buffer
-  room_put h p = rw (room_there (length b) text h) (ap Text (p.place ∙ zero-add (length text)), p.bytes ∙ put_front b text h)
+  room_put h p = rw (room_there (length b) text h) (ap Ok (p.place ∙ zero-add (length text)), p.bytes ∙ put_front b text h)
 
 -- ---- the text of the value
 
@@ -121,6 +122,6 @@ module _ (n : ℤ) (shift places : ℕ) where
     room_left = rw (r, w) (refl, refl)
 
     pub value_written :
-        {answer : Printed} {b1 : List ℕ} (text : List ℕ) → text ≡ value_text n shift places → (answer ≡ room_answer b text) × (b1 ≡ room_buffer b text)
+        {answer : (Result ℕ Refusal)} {b1 : List ℕ} (text : List ℕ) → text ≡ value_text n shift places → (answer ≡ room_answer b text) × (b1 ≡ room_buffer b text)
         → (answer ≡ printed_answer b n shift places) × (b1 ≡ printed_buffer b n shift places)
     value_written text e p = (p.0 ∙ ap (room_answer b) e ∙ room_left.0, p.1 ∙ ap (room_buffer b) e ∙ room_left.1)

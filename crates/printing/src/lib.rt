@@ -7,7 +7,7 @@ ghost use Rattle.printed_value.specs.PrintedValue.{nearest_even, last_digits, be
 ghost use Rattle.printed_value.specs.Prints.{minus_text};
 ghost use Rattle.printing.specs.Writing.{fraction_length, text_of, room_answer, room_buffer};
 
-use printed_value::Printed;
+use refusals::Refusal;
 
 // What is printed but for the sign: the whole part, and the digits behind the point as a number.
 #[derive(Clone, Copy)]
@@ -27,13 +27,7 @@ fn power_of_ten(places: u16) -> u64
     requires { places ≤ 9 }
     ensures { result ≡ 10 ^ places }
 {
-    let mut power: u64 = 1;
-    let mut k: u16 = 0;
-    while k < places {
-        power = power * 10;
-        k += 1;
-    }
-    power
+    10u64.pow(u32::from(places))
 }
 
 // a / b to the nearest whole number, a half to the even one.
@@ -69,17 +63,11 @@ fn round_size(size: u64, shift: u16, places: u16) -> Rounded
     }
 }
 
-// How many digits a number has.
+// How many digits a number has; 0 has one, as 1 has.
 fn digit_count(n: u64) -> usize
     ensures { result ≡ length (digits n) }
 {
-    let mut left = n;
-    let mut count: usize = 1;
-    while 9 < left {
-        left = left / 10;
-        count += 1;
-    }
-    count
+    n.max(1).ilog10() as usize + 1
 }
 
 // The last k digits of a number, zeros included.
@@ -87,12 +75,12 @@ fn put_last(buffer: &mut [u8], at: usize, k: usize, n: u64) -> usize
     requires { at + k ≤ length buffer.old }
     ensures { Put buffer.old at (last_digits k n) buffer.new result }
 {
-    if k < 1 {
-        return at;
+    let mut left = n;
+    for place in (at..at + k).rev() {
+        buffer[place] = b'0' + (left % 10) as u8;
+        left /= 10;
     }
-    let end = put_last(buffer, at, k - 1, n / 10);
-    buffer[end] = 0x30 + (n % 10) as u8;
-    end + 1
+    at + k
 }
 
 // `-`, or nothing.
@@ -143,30 +131,40 @@ fn fraction_length(places: u16) -> usize
 }
 
 // Prints a rounded value with its sign; only 19 is left to refuse it.
-fn print_rounded(buffer: &mut [u8], minus: bool, rounded: Rounded, places: u16) -> Printed
+fn print_rounded(
+    buffer: &mut [u8],
+    minus: bool,
+    rounded: Rounded,
+    places: u16,
+) -> Result<usize, Refusal>
     ensures answer { result ≡ room_answer buffer.old (text_of minus rounded.whole rounded.fraction places) }
     ensures written { buffer.new ≡ room_buffer buffer.old (text_of minus rounded.whole rounded.fraction places) }
 {
     let count = digit_count(rounded.whole);
     if buffer.len() < minus_length(minus) + count + fraction_length(places) {
-        return Printed::Refused(19);
+        return Err(Refusal::ValueRoom);
     }
-    Printed::Text(put_text(buffer, minus, rounded, count, places))
+    Ok(put_text(buffer, minus, rounded, count, places))
 }
 
 // Prints number / 2^shift with so many places at the front of a buffer and tells how many bytes it wrote: 17, then 18, then 19 refuse it, and nothing is
 // written then.
-pub fn print_value(buffer: &mut [u8], number: i64, shift: u16, places: u16) -> Printed
+pub fn print_value(
+    buffer: &mut [u8],
+    number: i64,
+    shift: u16,
+    places: u16,
+) -> Result<usize, Refusal>
     ensures answer { result ≡ printed_answer buffer.old number shift places }
     ensures written { buffer.new ≡ printed_buffer buffer.old number shift places }
 {
     let out_of_range = (9 < places) | (31 < shift);
     let beyond = !motion::fits_total(number);
     if out_of_range {
-        return Printed::Refused(17);
+        return Err(Refusal::PlacesOrShift);
     }
     if beyond {
-        return Printed::Refused(18);
+        return Err(Refusal::NumberTooGreat);
     }
     let rounded = round_size(integers::magnitude(number), shift, places);
     let nonzero = (0 < rounded.whole) | (0 < rounded.fraction);

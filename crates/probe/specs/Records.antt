@@ -9,13 +9,13 @@ use Rattle.gaps.specs.Gaps.{samples, datagrams}
 use Rattle.gaps.specs.declared.Gap.{Gap}
 use Rattle.gaps.specs.declared.Gap.TheVariants.{Missed, OffStep}
 use Rattle.motion.specs.declared.Axis.{Axis}
-use Rattle.motion.specs.declared.GroupAxes.{GroupAxes}
-use Rattle.motion.specs.declared.Axes.{Axes}
+use Rattle.motion.specs.Totals.{GroupAxes}
+use Rattle.motion.specs.Totals.{Axes}
 use Rattle.motion.specs.declared.Total.{Total}
-use Rattle.motion.specs.declared.GroupTotals.{GroupTotals}
-use Rattle.motion.specs.declared.Totals.{Totals}
+use Rattle.motion.specs.Totals.{GroupTotals}
+use Rattle.motion.specs.Totals.{Totals}
 use Rattle.doubt.specs.declared.AxisDoubt.{AxisDoubt}
-use Rattle.doubt.specs.declared.GyroDoubt.{GyroDoubt}
+use Rattle.doubt.specs.Doubt.{GyroDoubt}
 use Rattle.history.specs.declared.History.{History}
 use Rattle.session.specs.declared.Session.{Session}
 
@@ -92,8 +92,8 @@ gap_in s = cond (mark_at s 28) OffStep (Missed (datagrams (long_at s 29)))
 abbrev pub row_at : List ℕ → ℕ → List ℤ
 row_at s i = signed_word_at s i ∷ signed_word_at s (i + 4) ∷ signed_word_at s (i + 8) ∷ []
 
-unfoldable pub grid_in : List ℕ → List (List ℤ)
-grid_in s = row_at s 37 ∷ row_at s 49 ∷ row_at s 61 ∷ []
+unfoldable pub grid_at : List ℕ → ℕ → List (List ℤ)
+grid_at s i = row_at s i ∷ row_at s (i + 12) ∷ row_at s (i + 24) ∷ []
 
 abbrev pub statuses_in : List ℕ → List ℕ
 statuses_in s = byte_at s 73 ∷ byte_at s 74 ∷ byte_at s 75 ∷ []
@@ -108,9 +108,6 @@ unfoldable pub totals_in : List ℕ → Totals
 totals_in s = record { gyro = group_totals_at s 76; accelerometer = group_totals_at s 103; inclinometer = group_totals_at s 130 }
 
 -- ---- what a datagram is written from
-
-unfoldable pub made_grid_in : List ℕ → List (List ℤ)
-made_grid_in s = row_at s 17 ∷ row_at s 29 ∷ row_at s 41 ∷ []
 
 unfoldable pub values_in : List ℕ → Values
 values_in s =

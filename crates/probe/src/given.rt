@@ -1,12 +1,11 @@
 // What a record gives a call: the values at its places. Numbers have their least significant byte first.
-ghost use Rattle.std.specs.Prelude.{◌≡◌, ◌≤◌};
-ghost use Rattle.integers.specs.Bytes.{twos_complement};
+ghost use Rattle.std.specs.Prelude.{◌≡◌, ◌+◌, ◌≤◌};
 ghost use Rattle.wire.specs.Fields.{window};
 ghost use Rattle.gaps.specs.Gaps.{datagrams};
-ghost use Rattle.probe.specs.Records.{byte_at, short_at, word_at, long_at, signed_word_at, signed_long_at, mark_at};
+ghost use Rattle.probe.specs.Records.{short_at, word_at, long_at, signed_word_at, signed_long_at, mark_at};
 ghost use Rattle.probe.specs.Records.{three_at, setup_in, axis_at, group_axes_at, doubt_at, gyro_doubt_in, history_in, session_in};
-ghost use Rattle.probe.specs.Records.{gap_in, row_at, grid_in, statuses_in, total_at, group_totals_at, totals_in};
-ghost use Rattle.probe.specs.Records.{made_grid_in, values_in};
+ghost use Rattle.probe.specs.Records.{gap_in, row_at, grid_at, statuses_in, total_at, group_totals_at, totals_in};
+ghost use Rattle.probe.specs.Records.{values_in};
 
 use doubt::{AxisDoubt, GyroDoubt};
 use gaps::{Datagrams, Gap, Samples};
@@ -16,60 +15,87 @@ use made_datagram::Values;
 use motion::{Axes, Axis, GroupAxes, GroupTotals, Total, Totals};
 use session::Session;
 use setup::Setup;
+use std::array;
 
-// The numbers at a place.
-fn u16_at(s: &[u8], i: usize) -> u16
+// So many bytes a session takes.
+pub(crate) const SESSION_SIZE: usize = 246;
+
+// The places of single values: of a text line,
+pub(crate) const LINE_COUNTER: usize = 25;
+
+pub(crate) const LINE_LATENCY: usize = 26;
+
+pub(crate) const LINE_READINGS: usize = 37;
+
+pub(crate) const LINE_ROOM: usize = 157;
+
+pub(crate) const LINE_FILL: usize = 159;
+
+// of the lines of a whole piece, behind the session,
+pub(crate) const LINES_ROOM: usize = 246;
+
+pub(crate) const LINES_FILL: usize = 250;
+
+// of a datagram to write,
+pub(crate) const MADE_READINGS: usize = 17;
+
+pub(crate) const MADE_ROOM: usize = 129;
+
+pub(crate) const MADE_FILL: usize = 131;
+
+// and of a value to print.
+pub(crate) const VALUE_NUMBER: usize = 0;
+
+pub(crate) const VALUE_SHIFT: usize = 8;
+
+pub(crate) const VALUE_PLACES: usize = 10;
+
+pub(crate) const VALUE_ROOM: usize = 12;
+
+pub(crate) const VALUE_FILL: usize = 14;
+
+// So many bytes from a place on. The bound, here and below, keeps a place from wrapping; a narrower type would be cast at each use.
+fn bytes_at<const N: usize>(s: &[u8], at: usize) -> [u8; N]
+    requires { at + N ≤ 6000 }
+    ensures { result ≡ window N at s.now }
+{
+    array::from_fn(|k| byte_or_zero(s, at + k))
+}
+
+// The numbers at a place, each type by its own conversion.
+pub(crate) fn u16_at(s: &[u8], i: usize) -> u16
     requires { i ≤ 5000 }
     ensures { result ≡ short_at s.now i }
 {
-    byte_or_zero(s, i) as u16 + byte_or_zero(s, i + 1) as u16 * 256
+    u16::from_le_bytes(bytes_at(s, i))
 }
 
-fn u32_at(s: &[u8], i: usize) -> u32
-    requires { i ≤ 4990 }
+pub(crate) fn u32_at(s: &[u8], i: usize) -> u32
+    requires { i ≤ 5000 }
     ensures { result ≡ word_at s.now i }
 {
-    u16_at(s, i) as u32 + u16_at(s, i + 2) as u32 * 65536
+    u32::from_le_bytes(bytes_at(s, i))
 }
 
 fn u64_at(s: &[u8], i: usize) -> u64
-    requires { i ≤ 4980 }
+    requires { i ≤ 5000 }
     ensures { result ≡ long_at s.now i }
 {
-    u32_at(s, i) as u64 + u32_at(s, i + 4) as u64 * 4294967296
-}
-
-// The number whose two's complement this is.
-fn signed_of(n: u64) -> i64
-    ensures { result ≡ twos_complement 64 n }
-{
-    if n < 9223372036854775808 {
-        return n as i64;
-    }
-    -1 - (18446744073709551615 - n) as i64
-}
-
-fn short_signed_of(n: u32) -> i32
-    ensures { result ≡ twos_complement 32 n }
-{
-    if n < 2147483648 {
-        return n as i32;
-    }
-    -1 - (4294967295 - n) as i32
-}
-
-fn i64_at(s: &[u8], i: usize) -> i64
-    requires { i ≤ 4980 }
-    ensures { result ≡ signed_long_at s.now i }
-{
-    signed_of(u64_at(s, i))
+    u64::from_le_bytes(bytes_at(s, i))
 }
 
 fn i32_at(s: &[u8], i: usize) -> i32
-    requires { i ≤ 4980 }
+    requires { i ≤ 5000 }
     ensures { result ≡ signed_word_at s.now i }
 {
-    short_signed_of(u32_at(s, i))
+    u32_at(s, i).cast_signed()
+}
+
+pub(crate) fn i64_at(s: &[u8], i: usize) -> i64
+    requires { i ≤ 5000 }
+    ensures { result ≡ signed_long_at s.now i }
+{
+    u64_at(s, i).cast_signed()
 }
 
 fn mark_at(s: &[u8], i: usize) -> bool
@@ -85,13 +111,6 @@ fn three_at(s: &[u8], i: usize) -> [u16; 3]
     [u16_at(s, i), u16_at(s, i + 2), u16_at(s, i + 4)]
 }
 
-// How many bytes follow the head of a record.
-pub(crate) fn size_of(head: &[u8]) -> u16
-    ensures { result ≡ short_at head.now 1 }
-{
-    u16_at(head, 1)
-}
-
 // The setup of a record.
 pub(crate) fn setup_of(s: &[u8]) -> Setup
     ensures { result ≡ setup_in s.now }
@@ -105,18 +124,6 @@ pub(crate) fn setup_of(s: &[u8]) -> Setup
         units: units,
         shifts: shifts,
     }
-}
-
-fn held_of(s: &[u8]) -> [u8; 64]
-    ensures { result ≡ window 64 17 s.now }
-{
-    let mut held = [0u8; 64];
-    let mut i: usize = 0;
-    while i < 64 {
-        held[i] = byte_or_zero(s, 17 + i);
-        i += 1;
-    }
-    held
 }
 
 fn axis_at(s: &[u8], i: usize) -> Axis
@@ -179,14 +186,12 @@ fn history_of(s: &[u8]) -> History
     }
 }
 
-// The session of a record, which takes so many bytes there.
-pub(crate) const SESSION_SIZE: usize = 246;
-
+// The session of a record.
 pub(crate) fn session_of(s: &[u8]) -> Session
     ensures { result ≡ session_in s.now }
 {
     let setup = setup_of(s);
-    let held = held_of(s);
+    let held = bytes_at(s, 17);
     let history = history_of(s);
     Session {
         setup: setup,
@@ -205,18 +210,6 @@ pub(crate) fn ordinal_of(s: &[u8]) -> Datagrams
     Datagrams(u64_at(s, 17))
 }
 
-pub(crate) fn counter_of(s: &[u8]) -> u8
-    ensures { result ≡ byte_at s.now 25 }
-{
-    byte_or_zero(s, 25)
-}
-
-pub(crate) fn latency_of(s: &[u8]) -> u16
-    ensures { result ≡ short_at s.now 26 }
-{
-    u16_at(s, 26)
-}
-
 pub(crate) fn gap_of(s: &[u8]) -> Gap
     ensures { result ≡ gap_in s.now }
 {
@@ -233,20 +226,18 @@ fn row_at(s: &[u8], i: usize) -> [i32; 3]
     [i32_at(s, i), i32_at(s, i + 4), i32_at(s, i + 8)]
 }
 
-pub(crate) fn grid_of(s: &[u8]) -> [[i32; 3]; 3]
-    ensures { result ≡ grid_in s.now }
+// Three rows of readings.
+pub(crate) fn grid_at(s: &[u8], i: usize) -> [[i32; 3]; 3]
+    requires { i ≤ 3000 }
+    ensures { result ≡ grid_at s.now i }
 {
-    [row_at(s, 37), row_at(s, 49), row_at(s, 61)]
+    [row_at(s, i), row_at(s, i + 12), row_at(s, i + 24)]
 }
 
 pub(crate) fn statuses_of(s: &[u8]) -> [u8; 3]
     ensures { result ≡ statuses_in s.now }
 {
-    [
-        byte_or_zero(s, 73),
-        byte_or_zero(s, 74),
-        byte_or_zero(s, 75),
-    ]
+    bytes_at(s, 73)
 }
 
 fn total_at(s: &[u8], i: usize) -> Total
@@ -280,26 +271,7 @@ pub(crate) fn totals_of(s: &[u8]) -> Totals
     }
 }
 
-// The length of the buffer to lend for a line, and the byte that fills it.
-pub(crate) fn room_of(s: &[u8]) -> u16
-    ensures { result ≡ short_at s.now 157 }
-{
-    u16_at(s, 157)
-}
-
-pub(crate) fn fill_of(s: &[u8]) -> u8
-    ensures { result ≡ byte_at s.now 159 }
-{
-    byte_or_zero(s, 159)
-}
-
-// What a datagram is written from.
-pub(crate) fn made_grid_of(s: &[u8]) -> [[i32; 3]; 3]
-    ensures { result ≡ made_grid_in s.now }
-{
-    [row_at(s, 17), row_at(s, 29), row_at(s, 41)]
-}
-
+// What a datagram is written from, beside its readings.
 pub(crate) fn values_of(s: &[u8]) -> Values
     ensures { result ≡ values_in s.now }
 {
@@ -319,62 +291,4 @@ pub(crate) fn values_of(s: &[u8]) -> Values
         counter: i32_at(s, 121),
         latency: i32_at(s, 125),
     }
-}
-
-// The length of the buffer to lend for it, and the byte that fills it.
-pub(crate) fn made_room_of(s: &[u8]) -> u16
-    ensures { result ≡ short_at s.now 129 }
-{
-    u16_at(s, 129)
-}
-
-pub(crate) fn made_fill_of(s: &[u8]) -> u8
-    ensures { result ≡ byte_at s.now 131 }
-{
-    byte_or_zero(s, 131)
-}
-
-// What a value is printed from.
-pub(crate) fn number_of(s: &[u8]) -> i64
-    ensures { result ≡ signed_long_at s.now 0 }
-{
-    i64_at(s, 0)
-}
-
-pub(crate) fn shift_of(s: &[u8]) -> u16
-    ensures { result ≡ short_at s.now 8 }
-{
-    u16_at(s, 8)
-}
-
-pub(crate) fn places_of(s: &[u8]) -> u16
-    ensures { result ≡ short_at s.now 10 }
-{
-    u16_at(s, 10)
-}
-
-// The length of the buffer to lend for it, and the byte that fills it.
-pub(crate) fn value_room_of(s: &[u8]) -> u16
-    ensures { result ≡ short_at s.now 12 }
-{
-    u16_at(s, 12)
-}
-
-pub(crate) fn value_fill_of(s: &[u8]) -> u8
-    ensures { result ≡ byte_at s.now 14 }
-{
-    byte_or_zero(s, 14)
-}
-
-// The same for the lines of a whole piece, behind the session.
-pub(crate) fn lines_room_of(s: &[u8]) -> u32
-    ensures { result ≡ word_at s.now 246 }
-{
-    u32_at(s, SESSION_SIZE)
-}
-
-pub(crate) fn lines_fill_of(s: &[u8]) -> u8
-    ensures { result ≡ byte_at s.now 250 }
-{
-    byte_or_zero(s, SESSION_SIZE + 4)
 }

@@ -21,22 +21,21 @@ mod shown;
 ghost use Rattle.std.specs.Prelude.{◌≡◌, ◌≤◌, length};
 
 use given::{
-    SESSION_SIZE, counter_of, fill_of, gap_of, grid_of, latency_of, lines_fill_of, lines_room_of,
-    made_fill_of, made_grid_of, made_room_of, number_of, ordinal_of, places_of, room_of,
-    session_of, setup_of, shift_of, size_of, statuses_of, totals_of, value_fill_of, value_room_of,
-    values_of,
+    LINE_COUNTER, LINE_FILL, LINE_LATENCY, LINE_READINGS, LINE_ROOM, LINES_FILL, LINES_ROOM,
+    MADE_FILL, MADE_READINGS, MADE_ROOM, SESSION_SIZE, VALUE_FILL, VALUE_NUMBER, VALUE_PLACES,
+    VALUE_ROOM, VALUE_SHIFT, gap_of, grid_at, i64_at, ordinal_of, session_of, setup_of,
+    statuses_of, totals_of, u16_at, u32_at, values_of,
 };
-use made_datagram::Made;
-use rehearsal::Rehearsed;
+use integers::byte_or_zero;
+use refusals::Refusal;
 use shown::{
-    end_line, put_answer, put_bytes, put_datagram, put_given, put_grid, put_made, put_number,
-    put_printed, put_received, put_rehearsed, put_ruling, put_session, put_setup, put_text,
-    put_written,
+    end_line, put_answer, put_bytes, put_datagram, put_given, put_grid, put_number, put_rehearsed,
+    put_ruling, put_session, put_setup, put_text, put_written,
 };
-use shown_line::Written;
 use std::io;
 use std::io::{BufWriter, Read, Write};
-use whole_piece::{Batch, Received};
+use text_line::LineValues;
+use whole_piece::Batch;
 
 // A setup: what judging it answers, and what opening does.
 fn setup_record<W: Write>(writer: &mut W, s: &[u8]) -> io::Result<()> {
@@ -65,46 +64,34 @@ fn feed_record<W: Write>(writer: &mut W, s: &[u8]) -> io::Result<()> {
     put_datagram(writer, reply.datagram)
 }
 
-fn write_given(buffer: &mut [u8], s: &[u8]) -> Written {
-    let setup = setup_of(s);
-    let ordinal = ordinal_of(s);
-    let gap = gap_of(s);
-    let grid = grid_of(s);
-    let statuses = statuses_of(s);
-    let totals = totals_of(s);
-    text::write_line(
-        buffer,
-        setup,
-        ordinal,
-        counter_of(s),
-        latency_of(s),
-        gap,
-        grid,
-        statuses,
-        totals,
-    )
+fn write_given(buffer: &mut [u8], s: &[u8]) -> Result<usize, Refusal> {
+    let values = LineValues {
+        ordinal: ordinal_of(s),
+        counter: byte_or_zero(s, LINE_COUNTER),
+        latency: u16_at(s, LINE_LATENCY),
+        gap: gap_of(s),
+        readings: grid_at(s, LINE_READINGS),
+        statuses: statuses_of(s),
+        totals: totals_of(s),
+    };
+    text::write_line(buffer, setup_of(s), values)
 }
 
-fn filled(fill: u8) -> [u8; 400]
-    ensures { length result ≡ 400 }
+// An array with the same byte at each place.
+fn filled<const N: usize>(fill: u8) -> [u8; N]
+    ensures { N ≡ length result }
 {
-    [fill; 400]
-}
-
-fn put_buffer<W: Write>(writer: &mut W, buffer: [u8; 400], room: usize) -> io::Result<()>
-    requires { room ≤ 400 }
-{
-    put_bytes(writer, &buffer[0..room])
+    [fill; N]
 }
 
 // A text line, with all of the buffer behind the answer.
 fn line_record<W: Write>(writer: &mut W, s: &[u8]) -> io::Result<()> {
-    let room = (room_of(s) % 401) as usize;
-    let mut buffer = filled(fill_of(s));
-    let written = write_given(&mut buffer[0..room], s);
+    let room = (u16_at(s, LINE_ROOM) % 401) as usize;
+    let mut buffer = filled::<400>(byte_or_zero(s, LINE_FILL));
+    let written = write_given(&mut buffer[..room], s);
     put_text(writer, b" line")?;
     put_written(writer, written)?;
-    put_buffer(writer, buffer, room)?;
+    put_bytes(writer, &buffer[..room])?;
     end_line(writer)
 }
 
@@ -124,24 +111,14 @@ fn setup_line_record<W: Write>(writer: &mut W, s: &[u8]) -> io::Result<()> {
 fn equal_bytes(bytes: &[u8], byte: u8) -> usize
     ensures { result ≤ length bytes.now }
 {
-    let mut i: usize = 0;
-    while i < bytes.len() {
-        if bytes[i] != byte {
-            return i;
-        }
-        i += 1;
-    }
-    i
+    bytes.iter().take_while(|b| **b == byte).count()
 }
 
 // How many bytes an answer says are written, at most all of the buffer.
-fn written_of(received: Received, room: usize) -> usize
+fn written_of(received: Result<usize, Refusal>, room: usize) -> usize
     ensures { result ≤ room }
 {
-    match received {
-        Received::Lines(count) => { if count < room { count } else { room } }
-        Received::Refused(number) => 0,
-    }
+    received.unwrap_or(0).min(room)
 }
 
 // The bytes behind the lines: how many are as they were filled, and what follows these.
@@ -157,30 +134,16 @@ fn put_rest<W: Write>(writer: &mut W, bytes: &[u8], fill: u8) -> io::Result<()> 
 fn put_lines<W: Write>(writer: &mut W, buffer: &[u8], used: usize, fill: u8) -> io::Result<()>
     requires { used ≤ length buffer.now }
 {
-    put_text(writer, &buffer[0..used])?;
+    put_text(writer, &buffer[..used])?;
     put_rest(writer, &buffer[used..], fill)
 }
 
-fn put_batch<W: Write>(
-    writer: &mut W,
-    batch: Batch,
-    buffer: [u8; 72001],
-    room: usize,
-    fill: u8,
-) -> io::Result<()>
-    requires { room ≤ 72001 }
-{
+fn put_batch<W: Write>(writer: &mut W, batch: Batch, buffer: &[u8], fill: u8) -> io::Result<()> {
     let answer = batch.answer;
-    put_received(writer, answer)?;
+    put_written(writer, answer)?;
     end_line(writer)?;
     put_session(writer, batch.session)?;
-    put_lines(writer, &buffer[0..room], written_of(answer, room), fill)
-}
-
-fn filled_for_lines(fill: u8) -> [u8; 72001]
-    ensures { 72001 ≡ length result }
-{
-    [fill; 72001]
+    put_lines(writer, buffer, written_of(answer, buffer.len()), fill)
 }
 
 // A whole piece at once, with all of the buffer behind the answer.
@@ -188,29 +151,29 @@ fn lines_record<W: Write>(writer: &mut W, s: &[u8]) -> io::Result<()> {
     if s.len() < SESSION_SIZE + 5 {
         return Ok(());
     }
-    let room = (lines_room_of(s) % 72002) as usize;
-    let fill = lines_fill_of(s);
-    let mut buffer = filled_for_lines(fill);
-    let batch = lines::receive_lines(session_of(s), &s[SESSION_SIZE + 5..], &mut buffer[0..room]);
+    let room = (u32_at(s, LINES_ROOM) % 72002) as usize;
+    let fill = byte_or_zero(s, LINES_FILL);
+    let mut buffer = filled::<72001>(fill);
+    let batch = lines::receive_lines(session_of(s), &s[SESSION_SIZE + 5..], &mut buffer[..room]);
     put_text(writer, b" lines")?;
-    put_batch(writer, batch, buffer, room, fill)
+    put_batch(writer, batch, &buffer[..room], fill)
 }
 
-fn make_given(buffer: &mut [u8], s: &[u8]) -> Made {
+fn make_given(buffer: &mut [u8], s: &[u8]) -> Result<usize, Refusal> {
     let setup = setup_of(s);
-    let grid = made_grid_of(s);
+    let grid = grid_at(s, MADE_READINGS);
     let values = values_of(s);
     making::write_datagram(buffer, setup, grid, values)
 }
 
 // A datagram, with all of the buffer behind the answer.
 fn made_record<W: Write>(writer: &mut W, s: &[u8]) -> io::Result<()> {
-    let room = (made_room_of(s) % 401) as usize;
-    let mut buffer = filled(made_fill_of(s));
-    let made = make_given(&mut buffer[0..room], s);
+    let room = (u16_at(s, MADE_ROOM) % 401) as usize;
+    let mut buffer = filled::<400>(byte_or_zero(s, MADE_FILL));
+    let made = make_given(&mut buffer[..room], s);
     put_text(writer, b" made")?;
-    put_made(writer, made)?;
-    put_buffer(writer, buffer, room)?;
+    put_written(writer, made)?;
+    put_bytes(writer, &buffer[..room])?;
     end_line(writer)
 }
 
@@ -219,7 +182,7 @@ fn rehearsal_record<W: Write>(writer: &mut W, s: &[u8]) -> io::Result<()> {
     let rehearsed = rehearsal::judge_line(s);
     put_text(writer, b" rehearsal")?;
     put_rehearsed(writer, rehearsed)?;
-    if let Rehearsed::Written = rehearsed {
+    if rehearsed.is_ok() {
         put_grid(writer, rehearsal::readings_of(s))?;
         put_given(writer, rehearsal::values_of(s))?;
     }
@@ -228,30 +191,22 @@ fn rehearsal_record<W: Write>(writer: &mut W, s: &[u8]) -> io::Result<()> {
 
 // A value, with all of the buffer behind the answer.
 fn value_record<W: Write>(writer: &mut W, s: &[u8]) -> io::Result<()> {
-    let room = (value_room_of(s) % 401) as usize;
-    let mut buffer = filled(value_fill_of(s));
+    let room = (u16_at(s, VALUE_ROOM) % 401) as usize;
+    let mut buffer = filled::<400>(byte_or_zero(s, VALUE_FILL));
     let printed = printing::print_value(
-        &mut buffer[0..room],
-        number_of(s),
-        shift_of(s),
-        places_of(s),
+        &mut buffer[..room],
+        i64_at(s, VALUE_NUMBER),
+        u16_at(s, VALUE_SHIFT),
+        u16_at(s, VALUE_PLACES),
     );
     put_text(writer, b" value")?;
-    put_printed(writer, printed)?;
-    put_buffer(writer, buffer, room)?;
+    put_written(writer, printed)?;
+    put_bytes(writer, &buffer[..room])?;
     end_line(writer)
 }
 
-fn answer_record<W: Write>(
-    writer: &mut W,
-    number: u64,
-    kind: u8,
-    payload: [u8; 6144],
-    size: usize,
-) -> io::Result<()>
-    requires { size ≤ 6144 }
-{
-    let s = &payload[0..size];
+// One arm for each kind of record, each with its call.
+fn answer_record<W: Write>(writer: &mut W, number: u64, kind: u8, s: &[u8]) -> io::Result<()> {
     put_text(writer, b"record")?;
     put_number(writer, number)?;
     match kind {
@@ -267,30 +222,23 @@ fn answer_record<W: Write>(
     }
 }
 
-// Room for a record.
-fn room() -> [u8; 6144]
-    ensures { 6144 ≡ length result }
-{
-    [0; 6144]
-}
-
 // Reads a record and answers it; whether there was a whole one.
 fn next_record<R: Read, W: Write>(reader: &mut R, writer: &mut W, number: u64) -> io::Result<bool> {
     let mut head = [0u8; 3];
     let begun = console::read_full(reader, &mut head)?;
-    let size = size_of(&head) as usize;
-    let mut payload = room();
+    let size = u16_at(&head, 1) as usize;
+    let mut payload = console::zeros::<6144>();
     if begun < 3 {
         return Ok(false);
     }
     if 6144 < size {
         return Ok(false);
     }
-    let count = console::read_full(reader, &mut payload[0..size])?;
+    let count = console::read_full(reader, &mut payload[..size])?;
     if count < size {
         return Ok(false);
     }
-    answer_record(writer, number, head[0], payload, size)?;
+    answer_record(writer, number, head[0], &payload[..size])?;
     writer.flush()?;
     Ok(true)
 }

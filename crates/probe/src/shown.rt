@@ -4,18 +4,16 @@ use doubles::{GroupValues, TotalDoubles, Values};
 use doubt::{AxisDoubt, GyroDoubt, GyroMarks};
 use feeding::{Answer, Datagram};
 use gaps::Gap;
-use made_datagram::Made;
+use groups::{PerAxis, PerGroup};
 use motion::{
     Axes, Axis, GroupAxes, GroupJudgements, GroupTotals, Judgement, Judgements, Total, Totals,
 };
-use printed_value::Printed;
-use rehearsal::Rehearsed;
+use refusals::Refusal;
+use rehearsal::Fault;
 use session::Session;
-use setup::{Ruling, Setup};
-use shown_line::Written;
+use setup::Setup;
 use std::io;
 use std::io::Write;
-use whole_piece::Received;
 use wire::Fields;
 
 pub(crate) fn put_text<W: Write>(writer: &mut W, text: &[u8]) -> io::Result<()> {
@@ -31,23 +29,37 @@ pub(crate) fn put_number<W: Write>(writer: &mut W, n: u64) -> io::Result<()> {
 }
 
 fn put_signed<W: Write>(writer: &mut W, z: i64) -> io::Result<()> {
-    if z < 0 {
-        let magnitude = integers::magnitude(z);
-        return write!(writer, " -{magnitude}");
-    }
-    put_number(writer, integers::magnitude(z))
+    write!(writer, " {z}")
 }
 
-fn put_reading<W: Write>(writer: &mut W, z: i32) -> io::Result<()> {
-    put_signed(writer, z as i64)
-}
-
+// 1 for a mark.
 fn put_mark<W: Write>(writer: &mut W, mark: bool) -> io::Result<()> {
-    if mark {
-        put_text(writer, b" 1")
-    } else {
-        put_text(writer, b" 0")
-    }
+    put_number(writer, mark as u64)
+}
+
+// What is so of each axis, and of each group, in order.
+fn put_each_axis<W: Write, T: Copy, F: Fn(&mut W, T) -> io::Result<()>>(
+    writer: &mut W,
+    three: PerAxis<T>,
+    put: F,
+) -> io::Result<()>
+    requires { F.IsAlwaysCallable put }
+{
+    put(writer, three.x)?;
+    put(writer, three.y)?;
+    put(writer, three.z)
+}
+
+fn put_each_group<W: Write, T: Copy, F: Fn(&mut W, T) -> io::Result<()>>(
+    writer: &mut W,
+    three: PerGroup<T>,
+    put: F,
+) -> io::Result<()>
+    requires { F.IsAlwaysCallable put }
+{
+    put(writer, three.gyro)?;
+    put(writer, three.accelerometer)?;
+    put(writer, three.inclinometer)
 }
 
 // Bytes, two digits each.
@@ -57,20 +69,15 @@ fn put_byte<W: Write>(writer: &mut W, b: u8) -> io::Result<()> {
 
 pub(crate) fn put_bytes<W: Write>(writer: &mut W, bytes: &[u8]) -> io::Result<()> {
     put_text(writer, b" ")?;
-    let mut i: usize = 0;
-    while i < bytes.len() {
-        put_byte(writer, bytes[i])?;
-        i += 1;
+    for b in bytes {
+        put_byte(writer, *b)?;
     }
     Ok(())
 }
 
 // The bits of a double, all ones for one that is no number.
 fn bits_of(x: f64) -> u64 {
-    if x == x {
-        return f64::to_bits(x);
-    }
-    18446744073709551615
+    if x.is_nan() { u64::MAX } else { x.to_bits() }
 }
 
 fn put_double<W: Write>(writer: &mut W, x: f64) -> io::Result<()> {
@@ -84,37 +91,11 @@ fn put_doubles<W: Write>(writer: &mut W, x: f64, y: f64, z: f64) -> io::Result<(
     put_double(writer, z)
 }
 
-fn put_three<W: Write>(writer: &mut W, x: u64, y: u64, z: u64) -> io::Result<()> {
-    put_number(writer, x)?;
-    put_number(writer, y)?;
-    put_number(writer, z)
-}
-
-fn put_shorts<W: Write>(writer: &mut W, numbers: [u16; 3]) -> io::Result<()> {
-    put_three(
-        writer,
-        numbers[0] as u64,
-        numbers[1] as u64,
-        numbers[2] as u64,
-    )
-}
-
-fn put_statuses<W: Write>(writer: &mut W, statuses: [u8; 3]) -> io::Result<()> {
-    put_three(
-        writer,
-        statuses[0] as u64,
-        statuses[1] as u64,
-        statuses[2] as u64,
-    )
-}
-
-fn put_flagged<W: Write>(writer: &mut W, flagged: [u32; 3]) -> io::Result<()> {
-    put_three(
-        writer,
-        flagged[0] as u64,
-        flagged[1] as u64,
-        flagged[2] as u64,
-    )
+fn put_three<W: Write>(writer: &mut W, numbers: [u64; 3]) -> io::Result<()> {
+    for n in numbers {
+        put_number(writer, n)?;
+    }
+    Ok(())
 }
 
 fn put_judgement<W: Write>(writer: &mut W, judgement: Judgement) -> io::Result<()> {
@@ -128,52 +109,40 @@ fn put_judgement<W: Write>(writer: &mut W, judgement: Judgement) -> io::Result<(
 }
 
 fn put_group_judgements<W: Write>(writer: &mut W, judgements: GroupJudgements) -> io::Result<()> {
-    let x = judgements.x;
-    let y = judgements.y;
-    let z = judgements.z;
-    put_judgement(writer, x)?;
-    put_judgement(writer, y)?;
-    put_judgement(writer, z)
+    put_each_axis(writer, judgements, put_judgement)
 }
 
 fn put_judgements<W: Write>(writer: &mut W, judgements: Judgements) -> io::Result<()> {
-    put_group_judgements(writer, judgements.gyro)?;
-    put_group_judgements(writer, judgements.accelerometer)?;
-    put_group_judgements(writer, judgements.inclinometer)
+    put_each_group(writer, judgements, put_group_judgements)
 }
 
 fn put_row<W: Write>(writer: &mut W, row: [i32; 3]) -> io::Result<()> {
-    put_reading(writer, row[0])?;
-    put_reading(writer, row[1])?;
-    put_reading(writer, row[2])
+    for z in row {
+        put_signed(writer, z as i64)?;
+    }
+    Ok(())
 }
 
 pub(crate) fn put_setup<W: Write>(writer: &mut W, setup: Setup) -> io::Result<()> {
-    let units = setup.units;
-    let shifts = setup.shifts;
     put_number(writer, setup.rate as u64)?;
     put_number(writer, setup.identifier as u64)?;
     put_number(writer, setup.termination as u64)?;
-    put_shorts(writer, units)?;
-    put_shorts(writer, shifts)
+    put_three(writer, setup.units.map(u64::from))?;
+    put_three(writer, setup.shifts.map(u64::from))
 }
 
 fn put_axis<W: Write>(writer: &mut W, axis: Axis) -> io::Result<()> {
     put_mark(writer, axis.begun)?;
-    put_reading(writer, axis.last)?;
+    put_signed(writer, axis.last as i64)?;
     put_signed(writer, axis.total)
 }
 
 fn put_group_axes<W: Write>(writer: &mut W, axes: GroupAxes) -> io::Result<()> {
-    put_axis(writer, axes.x)?;
-    put_axis(writer, axes.y)?;
-    put_axis(writer, axes.z)
+    put_each_axis(writer, axes, put_axis)
 }
 
 fn put_axes<W: Write>(writer: &mut W, axes: Axes) -> io::Result<()> {
-    put_group_axes(writer, axes.gyro)?;
-    put_group_axes(writer, axes.accelerometer)?;
-    put_group_axes(writer, axes.inclinometer)
+    put_each_group(writer, axes, put_group_axes)
 }
 
 fn put_doubt<W: Write>(writer: &mut W, doubt: AxisDoubt) -> io::Result<()> {
@@ -182,9 +151,7 @@ fn put_doubt<W: Write>(writer: &mut W, doubt: AxisDoubt) -> io::Result<()> {
 }
 
 fn put_gyro_doubt<W: Write>(writer: &mut W, doubt: GyroDoubt) -> io::Result<()> {
-    put_doubt(writer, doubt.x)?;
-    put_doubt(writer, doubt.y)?;
-    put_doubt(writer, doubt.z)
+    put_each_axis(writer, doubt, put_doubt)
 }
 
 // A line with every field of a session.
@@ -220,12 +187,7 @@ fn put_values<W: Write>(writer: &mut W, values: Values) -> io::Result<()> {
 }
 
 fn put_group_values<W: Write>(writer: &mut W, values: GroupValues) -> io::Result<()> {
-    let gyro = values.gyro;
-    let accelerometer = values.accelerometer;
-    let inclinometer = values.inclinometer;
-    put_values(writer, gyro)?;
-    put_values(writer, accelerometer)?;
-    put_values(writer, inclinometer)
+    put_each_group(writer, values, put_values)
 }
 
 fn put_gap<W: Write>(writer: &mut W, gap: Gap) -> io::Result<()> {
@@ -241,15 +203,11 @@ fn put_total<W: Write>(writer: &mut W, total: Total) -> io::Result<()> {
 }
 
 fn put_group_totals<W: Write>(writer: &mut W, totals: GroupTotals) -> io::Result<()> {
-    put_total(writer, totals.x)?;
-    put_total(writer, totals.y)?;
-    put_total(writer, totals.z)
+    put_each_axis(writer, totals, put_total)
 }
 
 fn put_totals<W: Write>(writer: &mut W, totals: Totals) -> io::Result<()> {
-    put_group_totals(writer, totals.gyro)?;
-    put_group_totals(writer, totals.accelerometer)?;
-    put_group_totals(writer, totals.inclinometer)
+    put_each_group(writer, totals, put_group_totals)
 }
 
 fn put_total_doubles<W: Write>(writer: &mut W, doubles: TotalDoubles) -> io::Result<()> {
@@ -274,12 +232,12 @@ fn put_fields<W: Write>(writer: &mut W, fields: Fields) -> io::Result<()> {
     let accelerometer = fields.accelerometer_temperatures;
     let inclinometer = fields.inclinometer_temperatures;
     let temperature_statuses = fields.temperature_statuses;
-    put_statuses(writer, statuses)?;
+    put_three(writer, statuses.map(u64::from))?;
     put_row(writer, gyro)?;
     put_row(writer, accelerometer)?;
     put_row(writer, inclinometer)?;
-    put_statuses(writer, temperature_statuses)?;
-    put_reading(writer, fields.aux)?;
+    put_three(writer, temperature_statuses.map(u64::from))?;
+    put_signed(writer, fields.aux as i64)?;
     put_number(writer, fields.aux_status as u64)?;
     put_number(writer, fields.counter as u64)?;
     put_number(writer, fields.latency as u64)
@@ -295,9 +253,7 @@ fn put_readings<W: Write>(writer: &mut W, datagram: Datagram) -> io::Result<()> 
 }
 
 fn put_marks<W: Write>(writer: &mut W, marks: GyroMarks) -> io::Result<()> {
-    put_mark(writer, marks.x)?;
-    put_mark(writer, marks.y)?;
-    put_mark(writer, marks.z)
+    put_each_axis(writer, marks, put_mark)
 }
 
 // A line with every field of a datagram.
@@ -307,7 +263,7 @@ pub(crate) fn put_datagram<W: Write>(writer: &mut W, datagram: Datagram) -> io::
     put_text(writer, b"datagram")?;
     put_readings(writer, datagram)?;
     put_fields(writer, datagram.fields)?;
-    put_flagged(writer, flagged)?;
+    put_three(writer, flagged.map(u64::from))?;
     put_judgements(writer, datagram.judgements)?;
     put_group_values(writer, datagram.values)?;
     put_gap(writer, gap)?;
@@ -317,15 +273,15 @@ pub(crate) fn put_datagram<W: Write>(writer: &mut W, datagram: Datagram) -> io::
     end_line(writer)
 }
 
-fn put_refused<W: Write>(writer: &mut W, number: u8) -> io::Result<()> {
+fn put_refused<W: Write>(writer: &mut W, refusal: Refusal) -> io::Result<()> {
     put_text(writer, b" refused")?;
-    put_number(writer, number as u64)
+    put_number(writer, refusal.number() as u64)
 }
 
-pub(crate) fn put_ruling<W: Write>(writer: &mut W, ruling: Ruling) -> io::Result<()> {
+pub(crate) fn put_ruling<W: Write>(writer: &mut W, ruling: Result<(), Refusal>) -> io::Result<()> {
     match ruling {
-        Ruling::Accepted => put_text(writer, b" accepted"),
-        Ruling::Refused(number) => put_refused(writer, number),
+        Ok(()) => put_text(writer, b" accepted"),
+        Err(refusal) => put_refused(writer, refusal),
     }
 }
 
@@ -333,57 +289,42 @@ pub(crate) fn put_answer<W: Write>(writer: &mut W, answer: Answer) -> io::Result
     match answer {
         Answer::Datagram => put_text(writer, b" datagram"),
         Answer::Waiting => put_text(writer, b" waiting"),
-        Answer::Refused(number) => put_refused(writer, number),
+        Answer::Refused(refusal) => put_refused(writer, refusal),
     }
 }
 
-fn put_count<W: Write>(writer: &mut W, count: usize) -> io::Result<()> {
-    put_text(writer, b" written")?;
-    put_number(writer, count as u64)
-}
-
-pub(crate) fn put_written<W: Write>(writer: &mut W, written: Written) -> io::Result<()> {
+// How many bytes were written, or what refused them.
+pub(crate) fn put_written<W: Write>(
+    writer: &mut W,
+    written: Result<usize, Refusal>,
+) -> io::Result<()> {
     match written {
-        Written::Line(count) => put_count(writer, count),
-        Written::Refused(number) => put_refused(writer, number),
-    }
-}
-
-pub(crate) fn put_received<W: Write>(writer: &mut W, received: Received) -> io::Result<()> {
-    match received {
-        Received::Lines(count) => put_count(writer, count),
-        Received::Refused(number) => put_refused(writer, number),
-    }
-}
-
-pub(crate) fn put_made<W: Write>(writer: &mut W, made: Made) -> io::Result<()> {
-    match made {
-        Made::Datagram(count) => put_count(writer, count),
-        Made::Refused(number) => put_refused(writer, number),
-    }
-}
-
-pub(crate) fn put_printed<W: Write>(writer: &mut W, printed: Printed) -> io::Result<()> {
-    match printed {
-        Printed::Text(count) => put_count(writer, count),
-        Printed::Refused(number) => put_refused(writer, number),
+        Ok(count) => {
+            put_text(writer, b" written")?;
+            put_number(writer, count as u64)
+        }
+        Err(refusal) => put_refused(writer, refusal),
     }
 }
 
 // Whether a rehearsal line says what a datagram is to carry.
-pub(crate) fn put_rehearsed<W: Write>(writer: &mut W, rehearsed: Rehearsed) -> io::Result<()> {
+pub(crate) fn put_rehearsed<W: Write>(
+    writer: &mut W,
+    rehearsed: Result<(), Fault>,
+) -> io::Result<()> {
     match rehearsed {
-        Rehearsed::Written => put_text(writer, b" values"),
-        Rehearsed::TooLong => put_text(writer, b" too long"),
-        Rehearsed::OtherCount => put_text(writer, b" other count"),
-        Rehearsed::NoNumber => put_text(writer, b" no number"),
+        Ok(()) => put_text(writer, b" values"),
+        Err(Fault::TooLong) => put_text(writer, b" too long"),
+        Err(Fault::OtherCount) => put_text(writer, b" other count"),
+        Err(Fault::NoNumber) => put_text(writer, b" no number"),
     }
 }
 
 pub(crate) fn put_grid<W: Write>(writer: &mut W, readings: [[i32; 3]; 3]) -> io::Result<()> {
-    put_row(writer, readings[0])?;
-    put_row(writer, readings[1])?;
-    put_row(writer, readings[2])
+    for row in readings {
+        put_row(writer, row)?;
+    }
+    Ok(())
 }
 
 // The values of a datagram beside its readings.
@@ -398,8 +339,8 @@ pub(crate) fn put_given<W: Write>(writer: &mut W, values: made_datagram::Values)
     put_row(writer, accelerometer)?;
     put_row(writer, inclinometer)?;
     put_row(writer, temperature_statuses)?;
-    put_reading(writer, values.aux)?;
-    put_reading(writer, values.aux_status)?;
-    put_reading(writer, values.counter)?;
-    put_reading(writer, values.latency)
+    put_signed(writer, values.aux as i64)?;
+    put_signed(writer, values.aux_status as i64)?;
+    put_signed(writer, values.counter as i64)?;
+    put_signed(writer, values.latency as i64)
 }

@@ -1,6 +1,6 @@
 -- Demand 1: what comes back of lent memory, and which numbers can come out. Assumes nothing.
 use mathlib.Core.List.{List, [], ◌∷◌}
-use mathlib.Core.Option.{none}
+use mathlib.Core.Option.{none, some}
 use mathlib.Core.Path.{◌≡◌, refl, sym, ap, ◌∙◌, subst}
 use native.Mathlib.Omega.{arith}
 use Prim.Native.Nat.{ℕ}
@@ -13,7 +13,7 @@ use Rattle.setup.proofs.Refusals.{judge_numbers}
 use Rattle.setup_line.specs.SetupLine as line
 use Rattle.setup_line.proofs.LineAnswers.{line_number, line_numbers, refused_zeros, accepted_line}
 use Rattle.gaps.specs.declared.Gap.{Gap}
-use Rattle.motion.specs.declared.Totals.{Totals}
+use Rattle.motion.specs.Totals.{Totals}
 use Rattle.motion.proofs.NineAxes.{none_at}
 use Rattle.doubt.proofs.DoubtLaws.{no_doubt_at}
 use Rattle.shown_line.specs.declared.Shown.{Shown}
@@ -42,14 +42,21 @@ use Rattle.made_datagram.specs.declared.Values.{Values}
 use Rattle.made_datagram.proofs.MadeLaws as making
 use Rattle.printed_value.proofs.Answers as printed
 use Rattle.printed_value.proofs.ValueLaws.{value_longest}
-use Rattle.promises.specs.Demand1.{LineRead, SetupJudged, IsFresh, SessionOpened, PieceFed, LineWritten, ShownWritten, PieceReceived, DatagramMade, ValuePrinted, Demand1}
+use Rattle.promises.specs.Demand1.{Between, LineRead, SetupJudged, IsFresh, SessionOpened, PieceFed, LineWritten, ShownWritten, PieceReceived, DatagramMade, ValuePrinted, Demand1}
+use Rattle.std.specs.Prelude.{Err}
+use Rattle.refusals.specs.Refusals.{number_of, Ruling}
+use Rattle.refusals.specs.declared.Refusal.{Refusal}
+
+-- what holds of the number of each refusal holds of the number that comes out
+by_number : {r : Ruling} {n : ℕ} (P : ℕ → Type 0) → ((e : Refusal) → r ≡ Err e → P (number_of e)) → ruling_number r ≡ some n → P n
+by_number {r} P holds q = let s = some_refused r q in subst P s.2 (holds s.0 s.1)
 
 line_read : (l : List ℕ) → LineRead l
 line_read l =
     record {
       number = line_number l;
-      numbers = λ e. line_numbers l (some_refused (line.line_read l).answer e);
-      refused = λ e. refused_zeros l (some_refused (line.line_read l).answer e);
+      numbers = λ q. by_number (Between 1 9) (λ e r. line_numbers l r) q;
+      refused = λ q. refused_zeros l (some_refused (line.line_read l).answer q).1;
       accepted =
           λ e.
           let a = accepted_line l (none_accepted (line.line_read l).answer e) in
@@ -57,7 +64,7 @@ line_read l =
     }
 
 setup_judged : (u : Setup) → SetupJudged u
-setup_judged u = record { number = ruling_number_lem u; numbers = λ e. judge_numbers u (number_refused u e) }
+setup_judged u = record { number = ruling_number_lem u; numbers = λ q. let s = number_refused u q in subst (Between 4 9) s.2 (judge_numbers u s.1) }
 
 is_fresh : (u : Setup) → IsFresh u (fresh_of u)
 unfolding fresh_of
@@ -75,8 +82,8 @@ session_opened : (u : Setup) → SessionOpened u
 session_opened u =
     record {
       number = ap ruling_number (opening_ruling u) ∙ ruling_number_lem u;
-      numbers = λ e. opening_numbers u (some_refused (opening u).answer e);
-      refused = λ e. subst (IsFresh zero_setup) (sym (ap (λ (o : Opened). o.session) (refused_opening u (number_refused u e)))) (is_fresh zero_setup);
+      numbers = λ q. by_number (Between 4 9) (λ e r. opening_numbers u r) q;
+      refused = λ e. subst (IsFresh zero_setup) (sym (ap (λ (o : Opened). o.session) (refused_opening u (number_refused u e).1))) (is_fresh zero_setup);
       accepted = λ e. subst (IsFresh u) (sym (ap (λ (o : Opened). o.session) (opened u (number_accepted u e)))) (is_fresh u);
     }
 
@@ -84,8 +91,8 @@ piece_fed : (s : Session) (p : List ℕ) → PieceFed s p
 piece_fed s p =
     record {
       number = fed_number s p;
-      numbers = λ e. piece.piece_numbers s (length p) (piece.number_refused s (length p) e);
-      refused = λ e. fed_refused s p (piece.number_refused s (length p) e);
+      numbers = λ q. let r = piece.number_refused s (length p) q in subst (Between 10 12) r.2 (piece.piece_numbers s (length p) r.1);
+      refused = λ q. let r = piece.number_refused s (length p) q in (r.0, r.2, fed_refused s p r.1);
     }
 
 -- a piece of which the lines were written was fed to its end
@@ -138,7 +145,10 @@ module _ (b : List ℕ) (u : Setup) (ordinal counter latency : ℕ) (gap : Gap) 
               written = λ e. text.written_whole b u ordinal counter latency gap readings statuses totals e;
             };
         numbers = λ e. text.answer_numbers b u ordinal counter latency gap readings statuses totals e;
-        setup_first = λ e. sym (ap written_number (setup_refused b u ordinal counter latency gap readings statuses totals (number_refused u e)).0);
+        setup_first =
+            λ q.
+            let r = number_refused u q in
+            sym (ap written_number (setup_refused b u ordinal counter latency gap readings statuses totals r.1).0) ∙ ap some r.2;
         fits = λ e h l. text.enough_room b u ordinal counter latency gap readings statuses totals (number_accepted u e) h l;
         too_long = λ e h l. text.too_short b u ordinal counter latency gap readings statuses totals (number_accepted u e) h l;
       }
@@ -168,7 +178,7 @@ datagram_made b u readings v =
             written = λ e. making.made_whole b u readings v e;
           };
       numbers = λ e. making.made_numbers b u readings v e;
-      setup_first = λ e. ap made_number (making.setup_first b u readings v (number_refused u e));
+      setup_first = λ q. let r = number_refused u q in ap made_number (making.setup_first b u readings v r.1) ∙ ap some r.2;
       outside = λ e h. ap made_number (making.made_outside b u readings v (number_accepted u e) h);
       too_short = λ e h l. ap made_number (making.made_short b u readings v (number_accepted u e) h l);
       fits = λ e h l. let a = making.made_enough b u readings v (number_accepted u e) h l in (ap made_number a, ap made_bytes a);

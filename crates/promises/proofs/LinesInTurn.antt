@@ -8,8 +8,6 @@ use lib.ListN.{length, drop, replicate, length-replicate}
 use lib.Seq.{take_at}
 use Rattle.setup.specs.Setup.{ruling_on}
 use Rattle.setup.specs.declared.Setup.{Setup}
-use Rattle.setup.specs.declared.Ruling.{Ruling}
-use Rattle.setup.specs.declared.Ruling.TheVariants.{Accepted}
 use Rattle.scan.specs.Calls.{Outcome, taken_whole, turned_down, Report, none, refuse}
 use Rattle.scan.proofs.RunLaws.{run_append}
 use Rattle.admission.specs.Admission.{is_sound, piece_ruling}
@@ -24,7 +22,6 @@ use Rattle.feeding.specs.declared.Reply.{Reply}
 use Rattle.feeding.specs.Feed.{refusal, feed_by, feed_of, call_by, call, Calls}
 use Rattle.feeding.proofs.CallParts.{held_whole}
 use Rattle.feeding.proofs.Demands.{demand2, demand3}
-use Rattle.whole_piece.specs.declared.Received.{Received}
 use Rattle.whole_piece.specs.declared.Batch.{Batch}
 use Rattle.whole_piece.specs.Lines.{lines_after, answers_in, lines_in, behind, enough, buffer_by, batch_of, batch_buffer}
 use Rattle.promises.specs.InTurn as turns
@@ -33,6 +30,10 @@ use Rattle.whole_piece.proofs.LongestLines.{lines_enough}
 use Rattle.whole_piece.proofs.Batches.{Way, turned_down_lem, too_long, fitting, way, whole}
 use Rattle.whole_piece.proofs.OneByOne.{behind_sound, run, one_by_one}
 use Rattle.whole_piece.proofs.WholePieces.{lines_then}
+use Rattle.std.specs.Prelude as prelude
+use Rattle.std.specs.Prelude.{Ok}
+use Rattle.refusals.specs.Refusals.{Ruling}
+use Rattle.refusals.specs.declared.Refusal.{Refusal}
 
 -- ---- a session from which pieces can be given on
 
@@ -52,7 +53,7 @@ module _ (s : Session) (S : Sound s) (p b : List ℕ) where
 
 -- ---- what feeding the same pieces gives
 
-record AsFed (s : Session) (ps : List (List ℕ)) (text : List ℕ) (answers : List Received) (t : Session) : Type 0 where
+record AsFed (s : Session) (ps : List (List ℕ)) (text : List ℕ) (answers : List (prelude.Result ℕ Refusal)) (t : Session) : Type 0 where
   os : List Datagram
   rs : List Report
   calls : Calls s ps os rs t
@@ -61,7 +62,7 @@ record AsFed (s : Session) (ps : List (List ℕ)) (text : List ℕ) (answers : L
 
 module _ (s : Session) (S : Sound s) (p : List ℕ) where
   -- the calls on a piece that is taken
-  one_piece : piece_ruling s (length p) ≡ Accepted → Calls s (p ∷ []) (answers_in s p) (record { outcome = taken_whole; taken = length p } ∷ []) (whole s p).session
+  one_piece : piece_ruling s (length p) ≡ Ok tt → Calls s (p ∷ []) (answers_in s p) (record { outcome = taken_whole; taken = length p } ∷ []) (whole s p).session
   one_piece e =
       let M = admitted s (length p) e in
       let r = run s p S.sound M.piece M.session S.long in
@@ -70,13 +71,13 @@ module _ (s : Session) (S : Sound s) (p : List ℕ) where
       (subst (λ (x : Session). Calls s (p ∷ []) r.0 (record { outcome = taken_whole; taken = length p } ∷ []) x) f.1
       (subst (λ (rs : List Report). Calls s (p ∷ []) r.0 rs r.2) f.2 r.3))
 
-  module _ (b : List ℕ) (room : enough ≤ length b) {ps : List (List ℕ)} {text : List ℕ} {answers : List Received} {t : Session} where
+  module _ (b : List ℕ) (room : enough ≤ length b) {ps : List (List ℕ)} {text : List ℕ} {answers : List (prelude.Result ℕ Refusal)} {t : Session} where
     -- a piece, and then those behind it
     joins :
         {x : Batch} → Way s p b x → AsFed x.session ps text answers t
         → AsFed s (p ∷ ps) (lines_given x.answer (buffer_by x.answer (lines_in s p) b) ++ text) (x.answer ∷ answers) t
     unfolding feed_of
-    joins (turned_down_lem {n = n} e) A =
+    joins (turned_down_lem {e = n} e) A =
         let q : feed_of s p ≡ refusal s n = ap (λ (r : Ruling). feed_by r s p) e in
         record {
           os = A.os;
@@ -102,7 +103,7 @@ module _ (s : Session) (S : Sound s) (p : List ℕ) where
         }
 
 as_fed :
-    {s t : Session} {ps : List (List ℕ)} {text : List ℕ} {answers : List Received} → LinesRun s ps text answers t → Sound s → AsFed s ps text answers t
+    {s t : Session} {ps : List (List ℕ)} {text : List ℕ} {answers : List (prelude.Result ℕ Refusal)} → LinesRun s ps text answers t → Sound s → AsFed s ps text answers t
 unfolding lines_after batch_buffer
 as_fed turns.LinesRun.none S = record { os = []; rs = []; calls = none; lines = refl; outcomes = refl }
 as_fed (next {s = s} {p = p} b room r) S = joins s S p b room (way s p b) (as_fed r (sound_behind s S p b (way s p b)))
@@ -116,7 +117,7 @@ buffer_enough : enough ≤ length buffer
 unfolding buffer
 buffer_enough = omega (arith, length-replicate {A = ℕ} enough 0)
 
-lines_run : (s : Session) (ps : List (List ℕ)) → (text : List ℕ) × (answers : List Received) × (t : Session) × LinesRun s ps text answers t
+lines_run : (s : Session) (ps : List (List ℕ)) → (text : List ℕ) × (answers : List (prelude.Result ℕ Refusal)) × (t : Session) × LinesRun s ps text answers t
 lines_run s [] = ([], [], s, turns.LinesRun.none)
 lines_run s (p ∷ ps) =
     let r = lines_run (batch_of s p (length buffer)).session ps in (
@@ -128,7 +129,7 @@ lines_run s (p ∷ ps) =
 
 -- ---- the claim
 
-module _ (u : Setup) (ok : ruling_on u ≡ Accepted) where
+module _ (u : Setup) (ok : ruling_on u ≡ Ok tt) where
   fresh : (opening u).session ≡ fresh_of u
   fresh = ap (λ (o : Opened). o.session) (opened u ok)
 

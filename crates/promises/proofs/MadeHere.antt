@@ -12,7 +12,6 @@ use Rattle.integers.proofs.Booleans.{and_true}
 use Rattle.integers.proofs.Bytes.{all_are_bytes}
 use Rattle.setup.specs.Layout.{parts_at}
 use Rattle.setup.specs.Setup.{ruling_on, length_of}
-use Rattle.setup.specs.declared.Ruling.TheVariants as ruling
 use Rattle.setup.specs.declared.Setup.{Setup}
 use Rattle.setup.proofs.Refusals.{accepted_length}
 use Rattle.wire.specs.Fields.{Contents, fields_of}
@@ -34,8 +33,9 @@ use Rattle.feeding.specs.Feed.{feed_of, call, answer_of}
 use Rattle.feeding.specs.Promises.{CallHands, CallWaits}
 use Rattle.feeding.proofs.Demands.{every_call}
 use Rattle.promises.specs.MadeHere.{Given, made_of, ComesBack, MadeHere}
+use Rattle.std.specs.Prelude.{Ok}
 
-module _ (u : Setup) (ok : ruling_on u ≡ ruling.Accepted) where
+module _ (u : Setup) (ok : ruling_on u ≡ Ok tt) where
   trip : RoundTrip u
   trip = round_trip u ok
 

@@ -25,8 +25,6 @@ use Rattle.setup.specs.Setup.{setup_number, terminated, length_of}
 use Rattle.setup.specs.AcceptedSetup.{line_of_table, PassesNine}
 use Rattle.setup.specs.declared.Setup.{Setup}
 use Rattle.setup.specs.declared.Row.{Row}
-use Rattle.setup.specs.declared.Listing.{Listing}
-use Rattle.setup.specs.declared.Listing.TheVariants.{Listed, Unlisted}
 use Rattle.setup.proofs.Layouts.{EachEntry, table_adds_up, before_range, length_parts}
 use Rattle.setup.proofs.NineLaws.{accepted_nine, nine_accepted}
 use Rattle.setup.proofs.Refusals.{listed_length}
@@ -53,12 +51,13 @@ use Rattle.search.proofs.Datagrams.{datagram_parts, datagram_first}
 use Rattle.printed_value.proofs.ValueLaws.{prints, prints_sign, prints_only}
 use Rattle.printed_value.proofs.WorkedValues.{worked_values_lem}
 use Rattle.promises.specs.PaperRules.{MadeUp, PaperRules}
+use Rattle.std.specs.Prelude.{Option, None, Some}
 
 -- ---- the row of a line of the table
 
-some_row : (f : Listing) {r : Row} → listing_row f ≡ some r → f ≡ Listed r
-some_row (Listed q) {r} e = let z : q ≡ r = cc in ap Listed z
-some_row Unlisted e = absurd (let z : ◌≡◌ {A = ℕ} 0 1 = cc in omega arith)
+some_row : (f : Option Row) {r : Row} → listing_row f ≡ some r → f ≡ Some r
+some_row (Some q) {r} e = let z : q ≡ r = cc in ap Some z
+some_row None e = absurd (let z : ◌≡◌ {A = ℕ} 0 1 = cc in omega arith)
 
 entry_at : (P : Entry → Type 0) (es : List Entry) → EachEntry P es → (k : ℕ) → k < length es → P (get_or es k (entry 0 [] 0))
 entry_at P [] h k l = absurd (omega arith)
@@ -69,7 +68,7 @@ module _ (u : Setup) (e : setup_number u ≡ none) (k : ℕ) (l : k < length tab
   abbrev row : Row
   row = carrying (line_of_table k).carries
 
-  listed : row_at u.identifier ≡ Listed row
+  listed : row_at u.identifier ≡ Some row
   listed = ap row_at same ∙ some_row (row_at (line_of_table k).identifier) (listed_row_at k l)
 
   before_check_lem : bytes (parts_of row) ≡ (line_of_table k).before
@@ -87,7 +86,7 @@ module _ (u : Setup) (e : setup_number u ≡ none) where
   abbrev here : Row
   here = row u e nine.line nine.listed nine.identifier
 
-  its_row : row_at u.identifier ≡ Listed here
+  its_row : row_at u.identifier ≡ Some here
   its_row = listed u e nine.line nine.listed nine.identifier
 
   its_before : bytes (parts_of here) ≡ (line_of_table nine.line).before

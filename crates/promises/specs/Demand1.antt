@@ -1,9 +1,11 @@
 -- Demand 1 (00-mission): of each call that 01 and 02 name, and of the two that write lines beside it, what comes back of the memory lent to it, and
 -- which numbers can come out.
 -- Received bytes are lent as `&[u8]`, which no function can write; that every call ends, and judges its own input, is the language's: no public
--- function has a `requires`.
+-- function has a `requires`, save `map` and `map_with` of `groups`, whose closure must be callable.
 use Rattle.std.specs.Prelude.{ℕ, ◌^◌, ◌≤◌, ◌<◌, true, false, List, [], ◌∷◌, ◌++◌, ◌⊎◌, ◌≡◌, ℤ, nat_abs, length, drop, replicate}
 use Rattle.std.proofs.Math.Option.{Option, none, some}
+use Rattle.refusals.specs.Refusals.{number_of}
+use Rattle.refusals.specs.declared.Refusal.{Refusal}
 use Rattle.setup.specs.Setup.{Rule, first_number, ruling_number, setup_number, ruling_on, zero_setup, length_of}
 use Rattle.setup.specs.declared.Setup.{Setup}
 use Rattle.setup_line.specs.SetupLine as line
@@ -12,7 +14,7 @@ use Rattle.made_datagram.specs.Making.{made_datagram, making_rules, made_number,
 use Rattle.made_datagram.specs.declared.Values.{Values}
 use Rattle.gaps.specs.declared.Gap.{Gap}
 use Rattle.motion.specs.Totals.{no_axis, axis_at}
-use Rattle.motion.specs.declared.Totals.{Totals}
+use Rattle.motion.specs.Totals.{Totals}
 use Rattle.shown_line.specs.ShownLine.{shown_text, outside, shown_rules, written_number, written_bytes, shown_answer, shown_buffer}
 use Rattle.shown_line.specs.declared.Shown.{Shown}
 use Rattle.printed_value.specs.PrintedValue.{value_text, value_rules, printed_refusal, printed_bytes, printed_answer, printed_buffer}
@@ -68,7 +70,7 @@ pub record PieceFed (s : Session) (p : List ℕ) : Type 0 where
   -- the first of 10 to 12 that applies refuses it; no bytes are taken then, the session comes back as given, and zeros stand in the datagram's place
   pub number : answer_number (feed_of s p).answer ≡ piece_number s (length p)
   pub numbers : {n : ℕ} → piece_number s (length p) ≡ some n → Between 10 12 n
-  pub refused : {n : ℕ} → piece_number s (length p) ≡ some n → feed_of s p ≡ refusal s n
+  pub refused : {n : ℕ} → piece_number s (length p) ≡ some n → (e : Refusal) × (number_of e ≡ n) × (feed_of s p ≡ refusal s e)
 
 -- a text t for the front of the lent buffer b: the number that comes out, the bytes told, and the buffer at exit, b'
 pub record AtFront (rules : List Rule) (t b : List ℕ) (number : Option ℕ) (told : ℕ) (b' : List ℕ) : Type 0 where

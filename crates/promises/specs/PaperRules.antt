@@ -21,7 +21,7 @@ use Rattle.motion.specs.Status.{is_set, fit}
 use Rattle.motion.specs.Judgements.{applies, judgement_of, is_fit, JudgedCases}
 use Rattle.motion.specs.declared.Judgement.TheVariants.{Fit, Integrity, StartUp, Error, Overload}
 use Rattle.motion.specs.Totals.{keeps}
-use Rattle.motion.specs.declared.Totals.{Totals}
+use Rattle.motion.specs.Totals.{Totals}
 use Rattle.doubles.specs.Starred.{Starred}
 use Rattle.doubt.specs.DoubtRules.{DoubtRules}
 use Rattle.shown_line.specs.ShownLine.{outside}

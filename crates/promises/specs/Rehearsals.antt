@@ -3,7 +3,7 @@ use Rattle.std.specs.Prelude.{ℕ, ◌≤◌, ◌<◌, List, ◌≡◌, ℤ}
 use Rattle.integers.specs.Bytes.{Sign}
 use Rattle.integers.specs.Ranges.{is_zero, fits}
 use Rattle.gaps.specs.declared.Gap.{Gap}
-use Rattle.motion.specs.declared.Totals.{Totals}
+use Rattle.motion.specs.Totals.{Totals}
 use Rattle.shown_line.specs.declared.Shown.{Shown}
 use Rattle.rehearsal.specs.RehearsalLine.{nearest}
 use Rattle.rehearsal.specs.SentAgain.{Printable, SentAgain}

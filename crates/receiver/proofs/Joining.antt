@@ -7,15 +7,15 @@ use lib.ListN.{length, take, drop, length-append, length-drop, take-append-drop}
 use lib.Seq.{drop-append-add, drop-append-le, length-take-le}
 use Rattle.setup.specs.Setup.{ruling_on}
 use Rattle.setup.specs.declared.Setup.{Setup}
-use Rattle.setup.specs.declared.Ruling.TheVariants.{Accepted}
 use Rattle.scan.specs.Scan.{First, finds, later, first}
 use Rattle.scan.proofs.AmongLaws.{stable}
 use Rattle.scan.proofs.ScanLaws.{first_append, onward}
 use Rattle.search.specs.Search.{rules_of, verdict_of}
 use Rattle.search.proofs.Datagrams.{lawful}
 use Rattle.search.proofs.Places.{IsComplete, IsUndecided}
+use Rattle.std.specs.Prelude.{Ok}
 
-module _ (u : Setup) (a : ruling_on u ≡ Accepted) (h p : List ℕ) (m : ℕ) (at : ℕ) where
+module _ (u : Setup) (a : ruling_on u ≡ Ok tt) (h p : List ℕ) (m : ℕ) (at : ℕ) where
   again : (h ++ take m p) ++ drop m p ≡ h ++ p
   again = append_assoc h (take m p) (drop m p) ∙ ap (λ (y : List ℕ). h ++ y) (take-append-drop m p)
 

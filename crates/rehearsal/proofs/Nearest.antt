@@ -1,5 +1,8 @@
 -- Laws of the nearest number that 32 bits hold, by its two parts; a number that they don't hold gets 15 just as the number itself would.
 use Prim.Native.Nat.{ℕ, ◌+◌, ◌-◌, ◌*◌, ◌^◌, ◌≤◌, ◌<◌, min}
+use mir.Syntax.{w32}
+use mir.Val.{SFits}
+use native.Mathlib.Decide.{dec_lt}
 use native.Mathlib.Omega.{arith}
 use mathlib.Core.Bool.{Bool, true, false}
 use mathlib.Core.Path.{◌≡◌, refl, sym, ◌∙◌}
@@ -103,6 +106,14 @@ module _ (n : ℕ) where
       let p = parts (neg_ℤ (pos n)) in
       parts_ext (nearest (neg_ℤ (pos (min n 4294967296)))) (nearest (neg_ℤ (pos n)))
       (omega (arith, neg_pos_part (pos n), neg_neg_part (pos n), neg_pos_part (pos (min n 4294967296)), neg_neg_part (pos (min n 4294967296))))
+
+  -- a size that a signed number of 32 bits isn't
+  pub not_held : (SFits w32 (pos n) → ⊥) → 2147483648 ≤ n
+  not_held h = by (dec_lt n 2147483648)
+    where
+      by : Dec (n < 2147483648) → 2147483648 ≤ n
+      by (yes l) = absurd (h (record { sfits = l }))
+      by (no l) = omega arith
 
   pub positive_low : n < 2147483648 → nearest (pos n) ≡ pos n
   positive_low h = nearest_held (pos n) (omega arith) (omega arith)

@@ -1,5 +1,5 @@
 -- Laws of the numbers of a line, as the code reads them.
-use Prim.Native.Nat.{ℕ, ◌+◌, ◌-◌, ◌*◌, ◌≤◌, ◌<◌, min}
+use Prim.Native.Nat.{ℕ, zero, suc, ◌+◌, ◌-◌, ◌*◌, ◌≤◌, ◌<◌, min}
 use native.Mathlib.Omega.{arith}
 use mathlib.Core.Bool.{Bool, true, false, not, ◌&&◌, ◌||◌}
 use mathlib.Core.List.{List, [], ◌∷◌}
@@ -10,6 +10,7 @@ use lib.ListN.{length, get_or, take, drop, drop_of_length-le}
 use lib.Seq.{drop-cons}
 use native.Mathlib.Numerals.{add-one}
 use borrow.Author.Tests.{eq-eqb, ne_eqb}
+use Rattle.std.specs.List.{list_all, range_with_len}
 use Rattle.setup_line.specs.SetupLine.{digit_value, decimal_from, decimal_value}
 use Rattle.rehearsal.specs.RehearsalLine.{digits_written, number_written, number_value, nearest, field_written, all_written}
 use Rattle.integers.proofs.Buffers.{to_end}
@@ -80,15 +81,14 @@ module _ (fs : List (List ℕ)) (k : ℕ) where
   unfolding all_written
   written_next h = rw (drop-cons fs k [] h, add-one k)
 
-  pub written_more : k < length fs → is_written ≡ true → all_written k (drop k fs) ≡ all_written (k + 1) (drop (k + 1) fs)
-  written_more h e = written_next h ∙ ap (λ (t : Bool). t && all_written (k + 1) (drop (k + 1) fs)) e
+written_from : (fs : List (List ℕ)) (k n : ℕ) → k + n ≡ length fs → all_written k (drop k fs) ≡ list_all (is_written fs) (range_with_len k n)
+unfolding all_written
+written_from fs k zero e = rw (drop_of_length-le fs {i = k} (omega arith))
+written_from fs k (suc n) e = written_next fs k (omega arith) ∙ ap (λ (t : Bool). is_written fs k && t) (written_from fs (k + 1) n (omega arith))
 
-  pub written_stop : k < length fs → is_written ≡ false → all_written k (drop k fs) ≡ false
-  written_stop h e = written_next h ∙ ap (λ (t : Bool). t && all_written (k + 1) (drop (k + 1) fs)) e
-
-  pub written_end : length fs ≤ k → all_written k (drop k fs) ≡ true
-  unfolding all_written
-  written_end h = rw (drop_of_length-le fs h)
+-- all of them, one by one
+pub written_each : (fs : List (List ℕ)) {n : ℕ} → n ≡ length fs → all_written 0 fs ≡ list_all (is_written fs) (range_with_len 0 n)
+written_each fs e = written_from fs 0 _ (omega arith)
 
 -- ---- the value of a text from what the code has of its size
 

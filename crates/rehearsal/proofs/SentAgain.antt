@@ -17,8 +17,8 @@ use Rattle.gaps.specs.declared.Gap.{Gap}
 use Rattle.gaps.specs.declared.Gap.TheVariants.{Missed, OffStep}
 use Rattle.gaps.specs.declared.Datagrams.{Datagrams}
 use Rattle.motion.specs.declared.Total.{Total}
-use Rattle.motion.specs.declared.GroupTotals.{GroupTotals}
-use Rattle.motion.specs.declared.Totals.{Totals}
+use Rattle.motion.specs.Totals.{GroupTotals}
+use Rattle.motion.specs.Totals.{Totals}
 use Rattle.shown_line.specs.Decimal.{digits, decimal}
 use Rattle.shown_line.specs.ShownLine.{shown_if, missed_field, total_field, group_fields, groups_fields, shown_fields, shown_text}
 use Rattle.shown_line.specs.declared.Shown.{Shown}
@@ -29,7 +29,7 @@ use Rattle.shown_line.proofs.Thirteen.{inside_passes}
 use Rattle.made_datagram.specs.PassedValues.{temperatures_of}
 use Rattle.rehearsal.specs.RehearsalLine.{field_written, number_value, nearest, value_at, readings_in, values_in, all_written, longest, rehearsal_of}
 use Rattle.rehearsal.specs.SentAgain.{Printable, printed, if_shown, SentAgain}
-use Rattle.rehearsal.specs.declared.Rehearsed.TheVariants.{Written}
+use Rattle.std.specs.Prelude.{Ok}
 use Rattle.rehearsal.proofs.Decimals.{shown_written, shown_value}
 
 -- ---- every field is written as it should be
@@ -94,7 +94,7 @@ module _ (shown : Shown) (ordinal counter latency : ℕ) (gap : Gap) (readings :
       (numbers_written 4 (groups_fields shown.carried shown.kept readings statuses totals)
       (groups_numbers shown.carried shown.kept readings statuses totals))
 
-  line_written_lem : length line ≤ longest → rehearsal_of line ≡ Written
+  line_written_lem : length line ≤ longest → rehearsal_of line ≡ Ok tt
   unfolding rehearsal_of
   line_written_lem h =
       rw (le-ltb longest (length line) h, same_fields, line_count shown ordinal counter latency gap readings statuses totals, fields_written)

@@ -1,11 +1,11 @@
 -- The rehearsal line: what a person or a script writes for a datagram that is to be made. 02, 2.1 asks for rehearsals; the form is this project's own: the
 -- first 25 fields are those of the text line, in its order, so that a line that was printed can be sent again; behind them may stand temperatures and AUX.
-use Rattle.std.specs.Prelude.{ℕ, ◌+◌, ◌*◌, Bool, true, false, not, ◌&&◌, ◌||◌, cond, List, [], ◌∷◌, eqb, ltb, leb, ℤ, pos, negsuc, neg_ℤ, length, get_or}
+use Rattle.std.specs.Prelude.{ℕ, ◌+◌, ◌*◌, Bool, true, false, not, ◌&&◌, ◌||◌, cond, List, [], ◌∷◌, eqb, ltb, leb, ℤ, pos, negsuc, neg_ℤ, length, get_or, Result, Ok, Err}
 use Rattle.std.specs.Int.Signed.{lt_z}
 use Rattle.setup_line.specs.SetupLine.{fields_of, all_digits, decimal_value}
 use Rattle.made_datagram.specs.declared.Values.{Values}
-use Rattle.rehearsal.specs.declared.Rehearsed.{Rehearsed}
-use Rattle.rehearsal.specs.declared.Rehearsed.TheVariants.{Written, TooLong, OtherCount, NoNumber}
+use Rattle.rehearsal.specs.declared.Fault.{Fault}
+use Rattle.rehearsal.specs.declared.Fault.TheVariants.{TooLong, OtherCount, NoNumber}
 
 -- ---- a field
 
@@ -82,8 +82,8 @@ all_written k (f ∷ fs) = (field_written f || (eqb k 3 && eqb (length f) 1 && e
 abbrev pub longest : ℕ
 longest = 512
 
-unfoldable pub rehearsal_of : List ℕ → Rehearsed
+unfoldable pub rehearsal_of : List ℕ → Result (Unit {0}) Fault
 rehearsal_of line =
-    cond (ltb longest (length line)) TooLong
-    (cond (not (eqb (length (fields_of line)) 25 || eqb (length (fields_of line)) 39)) OtherCount
-    (cond (all_written 0 (fields_of line)) Written NoNumber))
+    cond (ltb longest (length line)) (Err TooLong)
+    (cond (not (eqb (length (fields_of line)) 25 || eqb (length (fields_of line)) 39)) (Err OtherCount)
+    (cond (all_written 0 (fields_of line)) (Ok tt) (Err NoNumber)))

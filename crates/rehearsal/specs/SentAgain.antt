@@ -3,12 +3,12 @@ use Rattle.std.specs.Prelude.{ℕ, ◌^◌, ◌<◌, false, cond, List, [], ◌�
 use Rattle.gaps.specs.declared.Gap.{Gap}
 use Rattle.gaps.specs.declared.Gap.TheVariants.{Missed}
 use Rattle.gaps.specs.declared.Datagrams.{Datagrams}
-use Rattle.motion.specs.declared.Totals.{Totals}
+use Rattle.motion.specs.Totals.{Totals}
 use Rattle.shown_line.specs.ShownLine.{shown_fields, parted, outside}
 use Rattle.shown_line.specs.declared.Shown.{Shown}
 use Rattle.made_datagram.specs.PassedValues.{temperatures_of}
 use Rattle.rehearsal.specs.RehearsalLine.{readings_in, values_in, rehearsal_of}
-use Rattle.rehearsal.specs.declared.Rehearsed.TheVariants.{Written}
+use Rattle.std.specs.Prelude.{Ok}
 
 -- what is printed: numbers of their types, which 13 doesn't refuse
 pub record Printable (ordinal counter latency : ℕ) (gap : Gap) (readings : List (List ℤ)) (statuses : List ℕ) (totals : Totals) : Type 0 where
@@ -29,7 +29,7 @@ module _ (shown : Shown) (ordinal counter latency : ℕ) (gap : Gap) (readings :
   printed = parted (shown_fields shown ordinal counter latency gap readings statuses totals)
 
   pub record SentAgain : Type 0 where
-    pub written : rehearsal_of printed ≡ Written
+    pub written : rehearsal_of printed ≡ Ok tt
     -- it says the numbers that it was printed of
     pub same_counter : (values_in printed).counter ≡ pos counter
     pub same_latency : (values_in printed).latency ≡ pos latency

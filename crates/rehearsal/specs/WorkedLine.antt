@@ -3,7 +3,7 @@
 use Rattle.std.specs.Prelude.{ℕ, List, [], ◌∷◌, ◌≡◌}
 use Rattle.made_datagram.specs.Worked.{worked_readings, worked_values}
 use Rattle.rehearsal.specs.RehearsalLine.{readings_in, values_in, rehearsal_of}
-use Rattle.rehearsal.specs.declared.Rehearsed.TheVariants.{Written}
+use Rattle.std.specs.Prelude.{Ok}
 
 abbrev pub worked_line : List ℕ
 worked_line =
@@ -19,6 +19,6 @@ worked_line =
     []
 
 pub record WorkedLine : Type 0 where
-  pub written : rehearsal_of worked_line ≡ Written
+  pub written : rehearsal_of worked_line ≡ Ok tt
   pub readings : readings_in worked_line ≡ worked_readings
   pub values : values_in worked_line ≡ worked_values

@@ -5,15 +5,28 @@ ghost use Rattle.setup_line.specs.SetupLine.{fields_of, decimal_value};
 ghost use Rattle.rehearsal.specs.RehearsalLine.{digits_written, number_written, field_written, number_value, nearest, value_at, axes_at, readings_in, values_in, all_written, rehearsal_of};
 
 use made_datagram::Values;
+use std::error::Error;
+use std::fmt;
 
-// Whether a line says it: its fields are as they should be; it has over 512 bytes; it has neither 25 nor 39 fields; a field is no whole number.
-#[derive(Clone, Copy)]
-pub enum Rehearsed {
-    Written,
+// Why a line says nothing: it has over 512 bytes; it has neither 25 nor 39 fields; a field is no whole number.
+#[derive(Clone, Copy, Debug, PartialEq, Eq)]
+pub enum Fault {
     TooLong,
     OtherCount,
     NoNumber,
 }
+
+impl fmt::Display for Fault {
+    fn fmt<W: fmt::Write>(&self, f: &mut fmt::Formatter<W>) -> fmt::Result {
+        f.write_str(match self {
+            Fault::TooLong => "longer than 512 bytes",
+            Fault::OtherCount => "neither 25 nor 39 fields",
+            Fault::NoNumber => "a field is no whole number",
+        })
+    }
+}
+
+impl Error for Fault {}
 
 fn digits_written(text: &[u8]) -> bool
     ensures { result ≡ digits_written text.now }
@@ -56,43 +69,28 @@ fn all_written(line: &[u8], count: usize) -> bool
     requires { count ≡ length (fields_of line.now) }
     ensures { result ≡ all_written 0 (fields_of line.now) }
 {
-    let mut k: usize = 0;
-    while k < count {
+    (0..count).all(|k| {
         let text = setup_line::field(line, k);
-        if !(field_written(text) | is_unknown(text, k)) {
-            return false;
-        }
-        k += 1;
-    }
-    true
+        field_written(text) | is_unknown(text, k)
+    })
 }
 
 // Whether a line says what a datagram is to carry.
-pub fn judge_line(line: &[u8]) -> Rehearsed
+#[tactic(auto, unfolding(crate::specs::RehearsalLine::rehearsal_of))]
+pub fn judge_line(line: &[u8]) -> Result<(), Fault>
     ensures { result ≡ rehearsal_of line.now }
 {
     if 512 < line.len() {
-        return Rehearsed::TooLong;
+        return Err(Fault::TooLong);
     }
     let count = setup_line::field_count(line);
     if !((count == 25) | (count == 39)) {
-        return Rehearsed::OtherCount;
+        return Err(Fault::OtherCount);
     }
     if !all_written(line, count) {
-        return Rehearsed::NoNumber;
+        return Err(Fault::NoNumber);
     }
-    Rehearsed::Written
-}
-
-// A number, 2^32 where it is larger.
-fn capped(number: u64) -> u64
-    ensures { result ≡ min number 4294967296 }
-{
-    if number < 4294967296 {
-        number
-    } else {
-        4294967296
-    }
+    Ok(())
 }
 
 // The number that digits write, 2^32 where it is larger.
@@ -100,10 +98,8 @@ fn magnitude_written(text: &[u8]) -> u64
     ensures { result ≡ min (decimal_value text.now) 4294967296 }
 {
     let mut number: u64 = 0;
-    let mut i: usize = 0;
-    while i < text.len() {
-        number = capped(number * 10 + setup_line::digit_value(text[i]) as u64);
-        i += 1;
+    for b in text {
+        number = (number * 10 + u64::from(setup_line::digit_value(*b))).min(4294967296);
     }
     number
 }
@@ -111,21 +107,13 @@ fn magnitude_written(text: &[u8]) -> u64
 fn nearest_positive(size: u64) -> i32
     ensures { result ≡ nearest (pos size) }
 {
-    if size < 2147483648 {
-        size as i32
-    } else {
-        2147483647
-    }
+    i32::try_from(size).unwrap_or(i32::MAX)
 }
 
 fn nearest_negative(size: u64) -> i32
     ensures { result ≡ nearest (neg_ℤ (pos size)) }
 {
-    if size < 2147483648 {
-        0 - size as i32
-    } else {
-        -2147483648
-    }
+    i32::try_from(size).map_or(i32::MIN, |fitting| -fitting)
 }
 
 // The number that a text writes, 0 where it writes none; the nearest that 32 bits hold.

@@ -16,6 +16,8 @@ use Rattle.scan.specs.Calls.{State, fresh, sound, Answer, waiting, refused, Fed,
 use Rattle.scan.specs.Calls.{unless_found, answered, after, taking, takes, call, feed}
 use Rattle.scan.proofs.ScanLaws.{first_append, onward, parted_at}
 use Rattle.scan.proofs.AmongLaws.{stable}
+use Rattle.refusals.specs.declared.Refusal.{Refusal}
+use Rattle.refusals.specs.declared.Refusal.TheVariants.{SessionUnsound, StreamTooLong}
 
 pub no_both : {f : First} {n m : ℕ} {h d r : List ℕ} {A : Type 0} → f ≡ ends n h → f ≡ finds m d r → A
 no_both p q = absurd (let z : ◌≡◌ {A = ℕ} 0 1 = cc in omega arith)
@@ -145,7 +147,7 @@ parts_sound R s h = and_true h.ruled (and_true (eq-eqb _ _ h.sum) (le-leb _ _ h.
 
 module _ (R : Rules) (s : State) (p : List ℕ) where
   -- a call by its case: refused by 10, as too long, by 12, or made
-  pub feed_unsound : feed R false s p ≡ refusing 10 s
+  pub feed_unsound : feed R false s p ≡ refusing SessionUnsound s
   unfolding feed
   feed_unsound = refl
 
@@ -153,7 +155,7 @@ module _ (R : Rules) (s : State) (p : List ℕ) where
   unfolding feed
   feed_over h = rw (lt-leb (length p) R.limits.piece h)
 
-  pub feed_past : length p ≤ R.limits.piece → R.limits.session < s.fed + length p → feed R true s p ≡ refusing 12 s
+  pub feed_past : length p ≤ R.limits.piece → R.limits.session < s.fed + length p → feed R true s p ≡ refusing StreamTooLong s
   unfolding feed
   feed_past h k = rw (le-leb (length p) R.limits.piece h, lt-leb (s.fed + length p) R.limits.session k)
 
@@ -163,7 +165,7 @@ module _ (R : Rules) (s : State) (p : List ℕ) where
 
   pub data View : Type 0 where
     over : R.limits.piece < length p → feed R true s p ≡ refusing R.limits.too_long s → View
-    past : length p ≤ R.limits.piece → R.limits.session < s.fed + length p → feed R true s p ≡ refusing 12 s → View
+    past : length p ≤ R.limits.piece → R.limits.session < s.fed + length p → feed R true s p ≡ refusing StreamTooLong s → View
     made : length p ≤ R.limits.piece → s.fed + length p ≤ R.limits.session → feed R true s p ≡ call (verdict R) s p → View
 
   pub view : View
@@ -174,7 +176,7 @@ module _ (R : Rules) (s : State) (p : List ℕ) where
       go (yes h) (no k) = let g : R.limits.session < s.fed + length p = omega arith in past h g (feed_past h g)
       go (yes h) (yes k) = made h k (feed_made h k)
 
-  pub no_refusal : {n : ℕ} {A : Type 0} → (call (verdict R) s p).answer ≡ refused n → A
+  pub no_refusal : {n : Refusal} {A : Type 0} → (call (verdict R) s p).answer ≡ refused n → A
   unfolding call
   no_refusal {n} {A} e = go (first (verdict R) (s.held ++ take (takes (verdict R) s.held p) p)) e
     where
@@ -183,17 +185,17 @@ module _ (R : Rules) (s : State) (p : List ℕ) where
       go (finds m d r) q = absurd (let z : ◌≡◌ {A = ℕ} 0 1 = cc in omega arith)
 
   -- A refusal takes no bytes and returns the session as given
-  pub refused_same : (ok : Bool) {n : ℕ} → (feed R ok s p).answer ≡ refused n → feed R ok s p ≡ refusing n s
+  pub refused_same : (ok : Bool) {n : Refusal} → (feed R ok s p).answer ≡ refused n → feed R ok s p ≡ refusing n s
   unfolding feed
   refused_same false e = ap (λ (a : Answer (List ℕ)). record { answer = a; taken = 0; next = s }) e
   refused_same true {n} e = go view
     where
-      by : (m : ℕ) → feed R true s p ≡ refusing m s → feed R true s p ≡ refusing n s
+      by : (m : Refusal) → feed R true s p ≡ refusing m s → feed R true s p ≡ refusing n s
       by m q = q ∙ ap (λ (a : Answer (List ℕ)). record { answer = a; taken = 0; next = s }) (sym (ap (λ (c : Fed State (List ℕ)). c.answer) q) ∙ e)
 
       go : View → feed R true s p ≡ refusing n s
       go (over a q) = by R.limits.too_long q
-      go (past a b q) = by 12 q
+      go (past a b q) = by StreamTooLong q
       go (made a b q) = no_refusal (sym (ap (λ (c : Fed State (List ℕ)). c.answer) q) ∙ e)
 
 module _ (R : Rules) (M : Lawful R) where

@@ -14,6 +14,7 @@ use Rattle.scan.specs.Calls.{State, Answer, datagram, waiting, refused, refusing
 use Rattle.scan.specs.Stream.{Among, end, other, then}
 use Rattle.scan.specs.Carry.{Consumer, steps, tells, told, carried_after, reply, Session, carrying}
 use Rattle.scan.proofs.CallsLaws.{call_fed, feed_unsound, View, over, past, made, view, refused_same}
+use Rattle.refusals.specs.declared.Refusal.{Refusal}
 
 -- bytes fed grow by the bytes that a call takes, none where it is refused
 pub feed_fed : (R : Rules) (ok : Bool) (s : State) (p : List ℕ) → (feed R ok s p).next.fed ≡ s.fed + (feed R ok s p).taken
@@ -27,14 +28,14 @@ feed_fed R true s p = by (view R s p)
 
 module _ {X O : Type 0} (K : Consumer X O) where
   -- a reply is a refusal only where the call was one
-  pub reply_refused : (x : X) (a : Answer (List ℕ)) {n : ℕ} → reply K x a ≡ refused n → a ≡ refused n
+  pub reply_refused : (x : X) (a : Answer (List ℕ)) {n : Refusal} → reply K x a ≡ refused n → a ≡ refused n
   reply_refused x (datagram d) e = absurd (let z : ◌≡◌ {A = ℕ} 0 1 = cc in omega arith)
   reply_refused x waiting e = absurd (let z : ◌≡◌ {A = ℕ} 0 1 = cc in omega arith)
   reply_refused x (refused m) {n} e = let z : m ≡ n = cc in ap refused z
 
   -- a refused call takes nothing and leaves the session as it was
   pub session_refused :
-      (R : Rules) (ok : Bool) (s : Session X) (p : List ℕ) {n : ℕ} → (carrying K s (feed R ok s.scan p)).answer ≡ refused n
+      (R : Rules) (ok : Bool) (s : Session X) (p : List ℕ) {n : Refusal} → (carrying K s (feed R ok s.scan p)).answer ≡ refused n
       → carrying K s (feed R ok s.scan p) ≡ refusing n s
   session_refused R ok s p e =
       ap (carrying K s) (refused_same R s.scan p ok (reply_refused s.carried (feed R ok s.scan p).answer e))

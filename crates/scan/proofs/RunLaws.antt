@@ -24,12 +24,14 @@ use Rattle.scan.proofs.StreamLaws.{outcome_over, outcome_past, outcome_taken, re
 use Rattle.scan.proofs.StreamLaws.{stream_down, reports_down, stream_whole, reports_whole, stream_rest, reports_rest}
 use Rattle.scan.proofs.FrontLaws.{hands_acceptable}
 use Rattle.scan.proofs.AmongLaws.{stable, scan_among, among_scan}
+use Rattle.refusals.specs.declared.Refusal.{Refusal}
+use Rattle.refusals.specs.declared.Refusal.TheVariants.{StreamTooLong}
 
 -- the answers are three
-no_answer : {O : Type 0} {a : Answer O} {n : ℕ} {A : Type 0} → a ≡ waiting → a ≡ refused n → A
+no_answer : {O : Type 0} {a : Answer O} {n : Refusal} {A : Type 0} → a ≡ waiting → a ≡ refused n → A
 no_answer p q = absurd (let z : ◌≡◌ {A = ℕ} 0 1 = cc in omega arith)
 
-not_refused : {O : Type 0} {a : Answer O} {o : O} {n : ℕ} {A : Type 0} → a ≡ datagram o → a ≡ refused n → A
+not_refused : {O : Type 0} {a : Answer O} {o : O} {n : Refusal} {A : Type 0} → a ≡ datagram o → a ≡ refused n → A
 not_refused p q = absurd (let z : ◌≡◌ {A = ℕ} 0 1 = cc in omega arith)
 
 not_waiting : {O : Type 0} {a : Answer O} {o : O} {A : Type 0} → a ≡ datagram o → a ≡ waiting → A
@@ -57,7 +59,7 @@ module _ {X O : Type 0} (K : Consumer X O) (R : Rules) where
 module _ {X O : Type 0} (K : Consumer X O) (R : Rules) (M : Lawful R) (Q : Invariant K R.acceptable) where
   -- what a call on a safe session gives, by its case
   pub data Step (s : Session X) (p : List ℕ) : Fed (Session X) O → Type 0 where
-    down : (m : ℕ) → outcome R.limits s.scan.fed (length p) ≡ turned_down m → Step s p (refusing m s)
+    down : (m : Refusal) → outcome R.limits s.scan.fed (length p) ≡ turned_down m → Step s p (refusing m s)
     waited :
         (n : ℕ) (h : List ℕ) → length p ≤ R.limits.piece → s.scan.fed + length p ≤ R.limits.session
         → first (verdict R) (s.scan.held ++ p) ≡ ends n h
@@ -92,7 +94,7 @@ module _ {X O : Type 0} (K : Consumer X O) (R : Rules) (M : Lawful R) (Q : Invar
 
       go : View R s.scan p → Step s p (carrying K s (feed R true s.scan p))
       go (over a q) = to q (down R.limits.too_long (outcome_over R.limits s.scan.fed (length p) a))
-      go (past a b q) = to q (down 12 (outcome_past R.limits s.scan.fed (length p) a b))
+      go (past a b q) = to q (down StreamTooLong (outcome_past R.limits s.scan.fed (length p) a b))
       go (made a b q) = to q (by a b (first (verdict R) (s.scan.held ++ take k p)) refl)
 
   -- what is handed out is acceptable
@@ -192,7 +194,7 @@ module _ {X O : Type 0} (K : Consumer X O) (R : Rules) (M : Lawful R) (Q : Invar
   module _ (s : Session X) (p : List ℕ) {t : Session X} {ps : List (List ℕ)} {os : List O} where
     -- a piece that is turned down
     left_out :
-        {m : ℕ} {rs : List Report} → outcome R.limits s.scan.fed (length p) ≡ turned_down m → Result s ps os rs t
+        {m : Refusal} {rs : List Report} → outcome R.limits s.scan.fed (length p) ≡ turned_down m → Result s ps os rs t
         → Result s (p ∷ ps) os (record { outcome = turned_down m; taken = 0 } ∷ rs) t
     left_out {m} {rs} e A =
         record {
@@ -271,11 +273,11 @@ module _ {X O : Type 0} (K : Consumer X O) (R : Rules) (M : Lawful R) (Q : Invar
 
     -- each kind of call, as a run has it
     refuse_step :
-        {c : Fed (Session X) O} {n : ℕ} {rs : List Report} → Step s p c → c.answer ≡ refused n
+        {c : Fed (Session X) O} {n : Refusal} {rs : List Report} → Step s p c → c.answer ≡ refused n
         → Result c.next ps os rs t → Result s (p ∷ ps) os (record { outcome = turned_down n; taken = c.taken } ∷ rs) t
     refuse_step {n = n} {rs = rs} (down m e) q A =
         let z : m ≡ n = cc in
-        subst (λ (j : ℕ). Result s (p ∷ ps) os (record { outcome = turned_down j; taken = 0 } ∷ rs) t) z (left_out e A)
+        subst (λ (j : Refusal). Result s (p ∷ ps) os (record { outcome = turned_down j; taken = 0 } ∷ rs) t) z (left_out e A)
     refuse_step (waited n h a b e) q A = no_answer refl q
     refuse_step (handed n d r k a b l e) q A = not_refused refl q
 
@@ -325,7 +327,7 @@ module _ {X O : Type 0} (K : Consumer X O) (R : Rules) (M : Lawful R) (Q : Invar
   ready s (p ∷ ps) w = inl w
 
   module _ (s : Session X) (p : List ℕ) (ps : List (List ℕ)) where
-    refused_ready : {c : Fed (Session X) O} {n : ℕ} → Step s p c → c.answer ≡ refused n → Ready s (p ∷ ps) → Ready c.next ps
+    refused_ready : {c : Fed (Session X) O} {n : Refusal} → Step s p c → c.answer ≡ refused n → Ready s (p ∷ ps) → Ready c.next ps
     refused_ready (down m e) q (inl w) = ready s ps w
     refused_ready (down m e) q (inr x) = absurd (let z : ◌≡◌ {A = ℕ} 0 1 = cc in omega arith)
     refused_ready (waited n h a b e) q y = no_answer refl q

@@ -7,6 +7,7 @@ use native.Mathlib.Omega.{arith}
 use lib.ListN.{drop}
 use Rattle.scan.specs.Calls.{Answer, datagram, waiting, refused, Fed, taken_whole, turned_down, Report, taking_more}
 use Rattle.scan.specs.Calls.{Run, none, refuse, wait, hand, skip}
+use Rattle.refusals.specs.declared.Refusal.{Refusal}
 
 module _ {A B : Type 0} (show : B → A) where
   abbrev pub shown : Answer B → Answer A
@@ -14,7 +15,7 @@ module _ {A B : Type 0} (show : B → A) where
   shown waiting = waiting
   shown (refused n) = refused n
 
-  shown_refused : (a : Answer B) {n : ℕ} → shown a ≡ refused n → a ≡ refused n
+  shown_refused : (a : Answer B) {n : Refusal} → shown a ≡ refused n → a ≡ refused n
   shown_refused (datagram o) e = absurd (let z : ◌≡◌ {A = ℕ} 0 1 = cc in omega arith)
   shown_refused waiting e = absurd (let z : ◌≡◌ {A = ℕ} 0 1 = cc in omega arith)
   shown_refused (refused m) {n} e = let z : m ≡ n = cc in ap refused z

@@ -12,13 +12,15 @@ use Rattle.integers.specs.Bytes.{joined}
 use Rattle.scan.specs.Rules.{Limits}
 use Rattle.scan.specs.Calls.{taken_whole, turned_down, Report, taking_more}
 use Rattle.scan.specs.Stream.{outcome, taken_by, reports, NoTen, stream}
+use Rattle.refusals.specs.declared.Refusal.{Refusal}
+use Rattle.refusals.specs.declared.Refusal.TheVariants.{SessionUnsound, StreamTooLong}
 
 module _ (L : Limits) (n k : ℕ) where
   pub outcome_over : L.piece < k → outcome L n k ≡ turned_down L.too_long
   unfolding outcome
   outcome_over h = rw (lt-leb k L.piece h)
 
-  pub outcome_past : k ≤ L.piece → L.session < n + k → outcome L n k ≡ turned_down 12
+  pub outcome_past : k ≤ L.piece → L.session < n + k → outcome L n k ≡ turned_down StreamTooLong
   unfolding outcome
   outcome_past h l = rw (le-leb k L.piece h, lt-leb (n + k) L.session l)
 
@@ -29,7 +31,7 @@ module _ (L : Limits) (n k : ℕ) where
   -- one of the three it is
   data Sorted : Type 0 where
     over : L.piece < k → outcome L n k ≡ turned_down L.too_long → Sorted
-    past : k ≤ L.piece → L.session < n + k → outcome L n k ≡ turned_down 12 → Sorted
+    past : k ≤ L.piece → L.session < n + k → outcome L n k ≡ turned_down StreamTooLong → Sorted
     taken : k ≤ L.piece → n + k ≤ L.session → outcome L n k ≡ taken_whole → Sorted
 
   sorted : Sorted
@@ -40,25 +42,25 @@ module _ (L : Limits) (n k : ℕ) where
       go (yes h) (no l) = let g : L.session < n + k = omega arith in past h g (outcome_past h g)
       go (yes h) (yes l) = taken h l (outcome_taken h l)
 
-  outcome_not_ten : (L.too_long ≡ 10 → ⊥) → outcome L n k ≡ turned_down 10 → ⊥
+  outcome_not_ten : (L.too_long ≡ SessionUnsound → ⊥) → outcome L n k ≡ turned_down SessionUnsound → ⊥
   outcome_not_ten ten e = by sorted
     where
-      other : {m : ℕ} → (m ≡ 10 → ⊥) → outcome L n k ≡ turned_down m → ⊥
+      other : {m : Refusal} → (m ≡ SessionUnsound → ⊥) → outcome L n k ≡ turned_down m → ⊥
       other h q = h (cc)
 
       by : Sorted → ⊥
       by (over a q) = other ten q
-      by (past a b q) = other (λ z. omega arith) q
+      by (past a b q) = other (λ z. let y : ◌≡◌ {A = ℕ} 0 1 = cc in omega arith) q
       by (taken a b q) = let z : ◌≡◌ {A = ℕ} 0 1 = cc in omega arith
 
 module _ (L : Limits) (n : ℕ) (p : List ℕ) (ps : List (List ℕ)) where
   -- a piece that is turned down is left out
-  pub stream_down : {m : ℕ} → outcome L n (length p) ≡ turned_down m → stream L n (p ∷ ps) ≡ stream L n ps
+  pub stream_down : {m : Refusal} → outcome L n (length p) ≡ turned_down m → stream L n (p ∷ ps) ≡ stream L n ps
   unfolding stream
   stream_down e = simp (e, add-zero)
 
   pub reports_down :
-      {m : ℕ} → outcome L n (length p) ≡ turned_down m
+      {m : Refusal} → outcome L n (length p) ≡ turned_down m
       → reports L n (p ∷ ps) ≡ record { outcome = turned_down m; taken = 0 } ∷ reports L n ps
   unfolding reports
   reports_down e = rw (e, add-zero n)
@@ -106,7 +108,7 @@ module _ (L : Limits) (n : ℕ) (p : List ℕ) (ps : List (List ℕ)) (small : l
             let sum : k + length (drop k p) ≡ length p = omega (arith, back) in
             rw (g, h, sum, reports_whole L n p ps (outcome_taken L n (length p) small fits))
 
-pub reports_no_ten : (L : Limits) → (L.too_long ≡ 10 → ⊥) → (n : ℕ) (ps : List (List ℕ)) → NoTen (reports L n ps)
+pub reports_no_ten : (L : Limits) → (L.too_long ≡ SessionUnsound → ⊥) → (n : ℕ) (ps : List (List ℕ)) → NoTen (reports L n ps)
 unfolding reports
 reports_no_ten L ten n [] = tt
 reports_no_ten L ten n (p ∷ ps) =

@@ -3,6 +3,8 @@
 use Rattle.std.specs.Prelude.{ℕ, suc, ◌+◌, ◌≡◌, Bool, cond, ◌&&◌, List, [], ◌∷◌, ◌++◌, eqb, leb, length, take, drop}
 use Rattle.scan.specs.Scan.{Verdict, First, ends, finds, first}
 use Rattle.scan.specs.Rules.{Rules, verdict}
+use Rattle.refusals.specs.declared.Refusal.{Refusal}
+use Rattle.refusals.specs.declared.Refusal.TheVariants.{SessionUnsound, StreamTooLong}
 
 -- What a session keeps of the scan: the bytes held, and how many bytes were handed out, passed over and fed
 pub record State : Type 0 where
@@ -20,11 +22,11 @@ unfoldable pub sound : Rules → State → Bool
 sound R s =
     R.may_hold s.held && (eqb (s.handed + s.passed + length s.held) s.fed && leb s.fed R.limits.session)
 
--- Which happened: a datagram was handed out, the piece ended, the call was refused by a number
+-- Which happened: a datagram was handed out, the piece ended, the call was refused
 pub data Answer (O : Type 0) : Type 0 where
   datagram : O → Answer O
   waiting : Answer O
-  refused : ℕ → Answer O
+  refused : Refusal → Answer O
 
 -- What a call tells: which happened, how many bytes it took, the new session
 pub record Fed (S O : Type 0) : Type 0 where
@@ -32,7 +34,7 @@ pub record Fed (S O : Type 0) : Type 0 where
   pub taken : ℕ
   pub next : S
 
-abbrev pub refusing : {S O : Type 0} → ℕ → S → Fed S O
+abbrev pub refusing : {S O : Type 0} → Refusal → S → Fed S O
 refusing n s = record { answer = refused n; taken = 0; next = s }
 
 -- no more bytes once a datagram is found
@@ -64,19 +66,19 @@ module _ (verdict : List ℕ → Verdict) where
       let k : ℕ = takes s.held p in
       taking s k (first verdict (s.held ++ take k p))
 
--- A call, of whether the session is sound: refused by 10, by the number for a piece that is too long, or by 12, or made
+-- A call, of whether the session is sound: refused by 10, as a piece that is too long, or by 12, or made
 unfoldable pub feed : Rules → Bool → State → List ℕ → Fed State (List ℕ)
 feed R ok s p =
     cond ok
     (cond (leb (length p) R.limits.piece)
-    (cond (leb (s.fed + length p) R.limits.session) (call (verdict R) s p) (refusing 12 s))
+    (cond (leb (s.fed + length p) R.limits.session) (call (verdict R) s p) (refusing StreamTooLong s))
     (refusing R.limits.too_long s))
-    (refusing 10 s)
+    (refusing SessionUnsound s)
 
--- What became of a piece: taken whole, or turned down by a number
+-- What became of a piece: taken whole, or turned down
 pub data Outcome : Type 0 where
   taken_whole : Outcome
-  turned_down : ℕ → Outcome
+  turned_down : Refusal → Outcome
 
 -- with how many bytes its calls took of it
 pub record Report : Type 0 where
@@ -91,7 +93,7 @@ taking_more k r = record { outcome = r.outcome; taken = k + r.taken }
 pub data Run {S O : Type 0} (feed : S → List ℕ → Fed S O) : S → List (List ℕ) → List O → List Report → S → Type 0 where
   none : {s : S} → Run feed s [] [] [] s
   refuse :
-      {s t : S} {p : List ℕ} {ps : List (List ℕ)} {os : List O} {rs : List Report} (n : ℕ)
+      {s t : S} {p : List ℕ} {ps : List (List ℕ)} {os : List O} {rs : List Report} (n : Refusal)
       → (feed s p).answer ≡ refused n
       → Run feed (feed s p).next ps os rs t
       → Run feed s (p ∷ ps) os (record { outcome = turned_down n; taken = (feed s p).taken } ∷ rs) t

@@ -1,13 +1,14 @@
 -- The rules that a scan goes by, in one record, and how they belong together.
 -- Assumes nothing.
+use Rattle.refusals.specs.declared.Refusal.{Refusal}
 use Rattle.std.specs.Prelude.{ℕ, ◌≤◌, ◌<◌, ◌≡◌, Bool, true, List, [], ◌∷◌, ◌++◌, length}
 use Rattle.scan.specs.Scan.{Verdict, finds, first, Undecided}
 use Rattle.scan.specs.Front.{front, Shaped}
 
--- The most bytes of a piece, the number that refuses a longer one, the most bytes of a session (01, What is turned down, 10 to 12)
+-- The most bytes of a piece, what refuses a longer one, the most bytes of a session (01, What is turned down, 10 to 12)
 pub record Limits : Type 0 where
   pub piece : ℕ
-  pub too_long : ℕ
+  pub too_long : Refusal
   pub session : ℕ
 
 pub record Rules : Type 0 where

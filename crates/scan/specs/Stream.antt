@@ -4,10 +4,11 @@
 use Rattle.std.specs.Prelude.{ℕ, ◌+◌, ◌≤◌, ◌≡◌, Bool, cond, true, List, [], ◌∷◌, ◌++◌, leb, length, take, drop}
 use Rattle.scan.specs.Rules.{Limits}
 use Rattle.scan.specs.Calls.{Outcome, taken_whole, turned_down, Report}
+use Rattle.refusals.specs.declared.Refusal.TheVariants.{SessionUnsound, StreamTooLong}
 
 -- What becomes of a piece of k bytes behind n earlier ones that were taken: turned down as too long, or else by 12, or taken whole
 unfoldable pub outcome : Limits → ℕ → ℕ → Outcome
-outcome L n k = cond (leb k L.piece) (cond (leb (n + k) L.session) taken_whole (turned_down 12)) (turned_down L.too_long)
+outcome L n k = cond (leb k L.piece) (cond (leb (n + k) L.session) taken_whole (turned_down StreamTooLong)) (turned_down L.too_long)
 
 -- the bytes taken of a piece
 abbrev pub taken_by : Outcome → List ℕ → List ℕ
@@ -24,7 +25,7 @@ reports L n (p ∷ ps) =
 -- no piece is reported as turned down by 10
 abbrev pub NoTen : List Report → Type 0
 NoTen [] = Unit {0}
-NoTen (r ∷ rs) = (r.outcome ≡ turned_down 10 → ⊥) × NoTen rs
+NoTen (r ∷ rs) = (r.outcome ≡ turned_down SessionUnsound → ⊥) × NoTen rs
 
 -- The stream: the pieces that are not left out, joined
 unfoldable pub stream : Limits → ℕ → List (List ℕ) → List ℕ

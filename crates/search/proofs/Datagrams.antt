@@ -10,7 +10,6 @@ use Rattle.integers.proofs.Booleans.{and_split}
 use Rattle.integers.proofs.Bytes.{are_bytes_all}
 use Rattle.setup.specs.Setup.{ruling_on, length_of}
 use Rattle.setup.specs.declared.Setup.{Setup}
-use Rattle.setup.specs.declared.Ruling.TheVariants.{Accepted}
 use Rattle.setup.proofs.Refusals as refusals
 use Rattle.acceptance.specs.Acceptable.{acceptable}
 use Rattle.acceptance.proofs.Acceptance.{accepted, accepted_length}
@@ -21,6 +20,7 @@ use Rattle.scan.specs.OneLength.{Prompt}
 use Rattle.scan.proofs.AmongLaws.{scan_among}
 use Rattle.scan.proofs.OneLength.{one_length_lawful, one_length_prompt, scan_bare}
 use Rattle.search.specs.Search.{is_datagram, limits_of, rules_of, verdict_of}
+use Rattle.std.specs.Prelude.{Ok}
 
 module _ (u : Setup) (d : List ℕ) where
   -- a datagram is bytes, and acceptable
@@ -40,7 +40,7 @@ module _ (u : Setup) (d : List ℕ) (good : is_datagram u d ≡ true) where
   pub datagram_least : 18 ≤ length d
   datagram_least = (accepted_length u d (datagram_parts u d good).1).0
 
-module _ (u : Setup) (a : ruling_on u ≡ Accepted) where
+module _ (u : Setup) (a : ruling_on u ≡ Ok tt) where
   some : 1 ≤ length_of u
   some = omega (arith, (refusals.accepted_length u a).0)
 

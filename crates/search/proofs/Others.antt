@@ -1,67 +1,44 @@
 -- Bytes that are not the identifier: the scan passes over all that stand before the first identifier.
-use Prim.Native.Nat.compare
-use Prim.Native.Nat.{ℕ, zero, suc, ◌+◌, ◌≤◌, ◌<◌}
+use Prim.Native.Nat.{ℕ, zero, suc, ◌+◌, ◌*◌, ◌≤◌}
 use mathlib.Core.Path.{◌≡◌, refl, sym, ap, ◌∙◌}
-use mathlib.Core.Bool.{Bool, true, false, ◌||◌}
+use mathlib.Core.Bool.{Bool, true, false}
 use mathlib.Core.List.{List, [], ◌∷◌}
-use native.Mathlib.Nat.{zero-add}
 use native.Mathlib.Omega.{arith}
-use borrow.Author.Tests.{lt-ltb, le-ltb}
+use borrow.Author.Tests.{ltb-false}
 use lib.Dec.{eqb, ltb}
-use lib.ListN.{length, drop, get_or}
+use lib.ListN.{length, take, drop, length-drop}
 use lib.Seq.{drop-drop}
+use Rattle.std.specs.Prelude.{not, cond}
+use Rattle.std.specs.List.{position_or_len}
+use Rattle.std.specs.Simd.{first_chunks}
 use Rattle.byte_slices.specs.ByteSlices.{index_after, index_of}
+use Rattle.byte_slices.proofs.ByteSlices.{index_take, index_behind}
 use Rattle.scan.specs.Scan.{First, first, later}
 use Rattle.scan.specs.Front.{front}
 use Rattle.scan.specs.OneLength.{one_candidate}
 use Rattle.scan.proofs.ScanLaws.{later_zero, later_later}
 use Rattle.scan.proofs.FrontLaws.{front_unknown}
 
-module _ (b : ℕ) where
-  -- whether b stands among one byte more
-  pub among_more : (u : List ℕ) (k : ℕ) → k < length u → ltb (index_of b u) (suc k) ≡ (ltb (index_of b u) k || eqb (get_or u k 0) b)
-  unfolding index_of index_after
-  among_more [] k h = absurd (omega arith)
-  among_more (x ∷ u) zero h = by (eqb x b) (index_of b u)
-    where
-      by : (t : Bool) (n : ℕ) → ltb (index_after t n) 1 ≡ (ltb (index_after t n) 0 || t)
-      by true n = refl
-      by false n = rw (le-ltb (suc n) 1 (omega arith), le-ltb (suc n) 0 (omega arith))
-  among_more (x ∷ u) (suc k) h = by (eqb x b) (index_of b u) (eqb (get_or u k 0) b) (among_more u k (omega arith))
-    where
-      by :
-          (t : Bool) (n : ℕ) (here : Bool) → ltb n (suc k) ≡ (ltb n k || here)
-          → ltb (index_after t n) (suc (suc k)) ≡ (ltb (index_after t n) (suc k) || here)
-      by true n here more = rw (lt-ltb 0 (suc (suc k)) (omega arith), lt-ltb 0 (suc k) (omega arith))
-      by false n here more = rw (compare.suc-suc (suc n) (suc k), compare.suc-suc (suc n) k) more
+-- the groups of sixteen before the first in which b stands are passed over
+pub far_groups :
+    (b k : ℕ) (u : List ℕ) → k * 16 ≤ length u → let far = position_or_len (λ g. ltb (index_of b g) 16) (first_chunks 16 k u) in
+    (far * 16 ≤ length u) × (far * 16 + index_of b (drop (far * 16) u) ≡ index_of b u)
+far_groups b zero u h = (h, omega arith)
+far_groups b (suc k) u h = by (ltb (index_of b (take 16 u)) 16) refl (far_groups b k (drop 16 u) (omega (arith, length-drop 16 u)))
+  where
+    rest : ℕ
+    rest = position_or_len (λ g. ltb (index_of b g) 16) (first_chunks 16 k (drop 16 u))
 
-  -- where b isn't among the first n, it is sought behind them
-  pub index_behind : (u : List ℕ) (n : ℕ) → n ≤ index_of b u → n + index_of b (drop n u) ≡ index_of b u
-  unfolding index_of index_after
-  index_behind u zero h = zero-add (index_of b u)
-  index_behind [] (suc n) h = absurd (omega arith)
-  index_behind (x ∷ u) (suc n) h = by (eqb x b) h (index_behind u n)
-    where
-      by :
-          (t : Bool) → suc n ≤ index_after t (index_of b u) → (n ≤ index_of b u → n + index_of b (drop n u) ≡ index_of b u)
-          → suc n + index_of b (drop n u) ≡ index_after t (index_of b u)
-      by true h behind = absurd (omega arith)
-      by false h behind = omega (arith, behind (omega arith))
-
-  -- the same from a place on
-  pub index_onward :
-      (p : List ℕ) (i n : ℕ) → n ≤ index_of b (drop i p) → i + n + index_of b (drop (i + n) p) ≡ i + index_of b (drop i p)
-  index_onward p i n h = omega (arith, index_behind (drop i p) n h, ap (index_of b) (drop-drop n i p))
-
-  -- it stands within the bytes, or at their end
-  pub index_within : (u : List ℕ) → index_of b u ≤ length u
-  unfolding index_of index_after
-  index_within [] = omega arith
-  index_within (x ∷ u) = by (eqb x b) (index_within u)
-    where
-      by : (t : Bool) → index_of b u ≤ length u → index_after t (index_of b u) ≤ suc (length u)
-      by true h = omega arith
-      by false h = omega arith
+    by :
+        (t : Bool) → ltb (index_of b (take 16 u)) 16 ≡ t
+        → (rest * 16 ≤ length (drop 16 u)) × (rest * 16 + index_of b (drop (rest * 16) (drop 16 u)) ≡ index_of b (drop 16 u))
+        → let far = cond (not t) (1 + rest) 0 in (far * 16 ≤ length u) × (far * 16 + index_of b (drop (far * 16) u) ≡ index_of b u)
+    by true e on = (omega arith, omega arith)
+    by false e on =
+        let none : 16 ≤ index_of b u = omega (arith, ltb-false _ _ e, index_take b 16 u) in
+        let all : 16 + rest * 16 ≡ (1 + rest) * 16 = omega arith in
+        let place = drop-drop (rest * 16) 16 u ∙ ap (λ (n : ℕ). drop n u) all in
+        (omega (arith, on.0, length-drop 16 u), omega (arith, on.1, index_behind b u 16 none, ap (index_of b) place))
 
 module _ (identifier size : ℕ) (acceptable : List ℕ → Bool) where
   abbrev from : List ℕ → First

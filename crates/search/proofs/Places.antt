@@ -9,7 +9,6 @@ use lib.ListN.{length, take, drop, get_or, length-drop}
 use lib.Seq.{length-take-le}
 use Rattle.setup.specs.Setup.{ruling_on, length_of}
 use Rattle.setup.specs.declared.Setup.{Setup}
-use Rattle.setup.specs.declared.Ruling.TheVariants.{Accepted}
 use Rattle.scan.specs.Scan.{First, ends, finds, first, Undecided as Open}
 use Rattle.scan.specs.Stream.{Begins}
 use Rattle.scan.proofs.ScanLaws.{Parted, parted_at, passed_in}
@@ -19,6 +18,7 @@ use Rattle.search.specs.declared.Place.{Place}
 use Rattle.search.specs.declared.Place.TheVariants.{Complete, Undecided}
 use Rattle.search.specs.Search.{candidate_of, is_datagram, rules_of, verdict_of, place_of, passed_before, size_found}
 use Rattle.search.proofs.Datagrams.{datagram_length, lawful}
+use Rattle.std.specs.Prelude.{Ok}
 
 -- the scan of p stops at a datagram of the setup, which begins at `at` and has that size
 pub record IsComplete (u : Setup) (p : List ℕ) (at size : ℕ) : Type 0 where
@@ -37,7 +37,7 @@ pub complete_length : {u : Setup} {p : List ℕ} {at size : ℕ} → IsComplete 
 complete_length {u} {p} {at} {size} k =
     omega (arith, length-take-le size (drop at p) (omega (arith, k.within, length-drop at p)), datagram_length u (take size (drop at p)) k.good)
 
-module _ (u : Setup) (a : ruling_on u ≡ Accepted) (p : List ℕ) (at : ℕ) where
+module _ (u : Setup) (a : ruling_on u ≡ Ok tt) (p : List ℕ) (at : ℕ) where
   abbrev PartedBy : First → Type 0
   PartedBy f = Parted (verdict_of u) (stable (rules_of u) (lawful u a)) p f
 
@@ -80,7 +80,7 @@ module _ (u : Setup) (a : ruling_on u ≡ Accepted) (p : List ℕ) (at : ℕ) wh
 
 -- ---- what the place says
 
-module _ (u : Setup) (a : ruling_on u ≡ Accepted) (p : List ℕ) where
+module _ (u : Setup) (a : ruling_on u ≡ Ok tt) (p : List ℕ) where
   abbrev place : Place
   place = place_of (first (verdict_of u) p)
 

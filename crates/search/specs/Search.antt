@@ -13,6 +13,7 @@ use Rattle.scan.specs.Rules.{Limits, Rules, verdict}
 use Rattle.scan.specs.OneLength.{one_candidate, held_rule}
 use Rattle.search.specs.declared.Place.{Place}
 use Rattle.search.specs.declared.Place.TheVariants.{Complete, Undecided}
+use Rattle.refusals.specs.declared.Refusal.TheVariants.{PieceTooLong}
 
 -- a datagram begins with the setup's identifier, and then has the setup's length
 abbrev pub candidate_of : Setup → ℕ → ℕ
@@ -24,7 +25,7 @@ is_datagram u d = are_bytes d && acceptable u d
 
 -- the most bytes of a piece, which 11 refuses beyond, and of a session (10 and 12)
 abbrev pub limits_of : Setup → Limits
-limits_of u = record { piece = 4096; too_long = 11; session = 2 ^ 34 }
+limits_of u = record { piece = 4096; too_long = PieceTooLong; session = 2 ^ 34 }
 
 -- the rules of a setup, by which its sessions scan
 abbrev pub rules_of : Setup → Rules

@@ -10,8 +10,8 @@ ghost use Rattle.search.specs.Search.{size_in, verdict_in, place_of};
 use setup::Sensor;
 
 // Where a scan that stops at its first datagram ends: where a complete one begins and how many bytes it has,
-// or from where on the bytes are undecided.
-#[derive(Clone, Copy)]
+// or from where on the bytes are undecided. No Option: both cases tell a place.
+#[derive(Clone, Copy, Debug, PartialEq, Eq)]
 pub enum Place {
     Complete(usize, usize),
     Undecided(usize),
@@ -36,19 +36,11 @@ fn is_datagram(sensor: Sensor, s: &[u8]) -> bool
 // How many bytes are looked at together.
 const TOGETHER: usize = 16;
 
-// Whether a byte stands among the sixteen from a place on. All of them are looked at, which the compiler does at once.
-fn is_near(byte: u8, bytes: &[u8], place: usize) -> bool
-    requires { place + 16 ≤ length bytes.now }
-    ensures { result ≡ ltb (index_of byte (drop place bytes.now)) 16 }
+// Whether a byte stands among sixteen, which the compiler looks at all at once.
+fn is_near(byte: u8, group: &[u8; TOGETHER]) -> bool
+    ensures { result ≡ ltb (index_of byte group.now) 16 }
 {
-    let mut found = false;
-    let mut i = 0;
-    while i < TOGETHER {
-        let at = place + i;
-        found = found | (bytes[at] == byte);
-        i += 1;
-    }
-    found
+    group.contains(&byte)
 }
 
 // A place from `from` on, up to which the byte doesn't stand: where it stands among the next sixteen, or fewer are left.
@@ -56,14 +48,12 @@ fn near_place(byte: u8, bytes: &[u8], from: usize) -> usize
     requires { from ≤ length bytes.now }
     ensures { (result ≤ length bytes.now) × (result + index_of byte (drop result bytes.now) ≡ from + index_of byte (drop from bytes.now)) }
 {
-    let mut i = from;
-    while TOGETHER <= bytes.len() - i {
-        if is_near(byte, bytes, i) {
-            return i;
-        }
-        i += TOGETHER;
-    }
-    i
+    let (groups, _) = bytes[from..].as_chunks::<TOGETHER>();
+    let far = groups
+        .iter()
+        .position(|group| is_near(byte, group))
+        .unwrap_or(groups.len());
+    from + far * TOGETHER
 }
 
 // The place where the byte stands first from `from` on, or the end.
@@ -81,6 +71,7 @@ pub fn find(sensor: Sensor, bytes: &[u8]) -> Place
 {
     let identifier = sensor.identifier;
     let size = size_of(sensor);
+    // No `for` or chain: the step is one byte, or the way to the next identifier.
     let mut i = 0;
     while i < bytes.len() {
         if bytes[i] == identifier {

@@ -1,14 +1,13 @@
 -- A session of its parts, a fresh one, and what opening gives (01, The scan; What is turned down, 4 to 9).
-use Rattle.std.specs.Prelude.{ℕ, Bool, true, false, List, [], ◌∷◌, length}
+use Rattle.std.specs.Prelude.{ℕ, Bool, true, false, List, [], ◌∷◌, length, Ok, Err}
 use Rattle.integers.specs.Buffers.{padded}
 use Rattle.setup.specs.Setup.{ruling_on, zero_setup}
 use Rattle.setup.specs.declared.Setup.{Setup}
-use Rattle.setup.specs.declared.Ruling.{Ruling}
-use Rattle.setup.specs.declared.Ruling.TheVariants.{Accepted, Refused}
 use Rattle.history.specs.History.{no_history}
 use Rattle.history.specs.declared.History.{History}
 use Rattle.session.specs.declared.Session.{Session}
 use Rattle.session.specs.declared.Opened.{Opened}
+use Rattle.refusals.specs.Refusals.{Ruling}
 
 -- ---- a fresh session, and opening
 
@@ -22,13 +21,13 @@ fresh_of u = session_with u no_history 0 0 []
 
 -- whether a setup is accepted
 abbrev pub is_accepted : Ruling → Bool
-is_accepted Accepted = true
-is_accepted (Refused n) = false
+is_accepted (Ok accepted) = true
+is_accepted (Err e) = false
 
 -- opening gives a fresh session, or refuses the setup by 4 to 9 and gives a session of zeros
 abbrev pub opened_by : Ruling → Setup → Session
-opened_by Accepted u = fresh_of u
-opened_by (Refused n) u = fresh_of zero_setup
+opened_by (Ok accepted) u = fresh_of u
+opened_by (Err e) u = fresh_of zero_setup
 
 unfoldable pub opening : Setup → Opened
 opening u = record { answer = ruling_on u; session = opened_by (ruling_on u) u }

@@ -14,8 +14,7 @@ use Rattle.setup.specs.Setup.{rate_listed, is_listed, any_above, stray_group, st
 use Rattle.setup.specs.AcceptedSetup.{line_of_table, PassesNine}
 use Rattle.setup.specs.declared.Setup.{Setup}
 use Rattle.setup.specs.declared.Row.{Row}
-use Rattle.setup.specs.declared.Listing.{Listing}
-use Rattle.setup.specs.declared.Listing.TheVariants.{Listed, Unlisted}
+use Rattle.std.specs.Prelude.{Option, None, Some}
 use Rattle.setup.proofs.Rows.{listed_row_at}
 use Rattle.setup.proofs.Rules.{number_accepted}
 use Rattle.setup.proofs.Refusals.{accepted, none_above, absent_plain}
@@ -49,23 +48,23 @@ six_listed n (inr (inr (inr (inr (inr e))))) = rw e
 
 -- ---- 5
 
-line_of : (es : List Entry) (i : ℕ) {r : Row} → row_in es i ≡ Listed r → (k : ℕ) × (k < length es) × (i ≡ (get_or es k (entry 0 [] 0)).identifier)
+line_of : (es : List Entry) (i : ℕ) {r : Row} → row_in es i ≡ Some r → (k : ℕ) × (k < length es) × (i ≡ (get_or es k (entry 0 [] 0)).identifier)
 line_of [] i e = let z : ◌≡◌ {A = ℕ} 0 1 = cc in absurd (omega arith)
 line_of (e ∷ es) i {r} q = by (eqb i e.identifier) refl q (line_of es i)
   where
     by :
-        (b : Bool) → eqb i e.identifier ≡ b → row_in (e ∷ es) i ≡ Listed r
-        → (row_in es i ≡ Listed r → (k : ℕ) × (k < length es) × (i ≡ (get_or es k (entry 0 [] 0)).identifier))
+        (b : Bool) → eqb i e.identifier ≡ b → row_in (e ∷ es) i ≡ Some r
+        → (row_in es i ≡ Some r → (k : ℕ) × (k < length es) × (i ≡ (get_or es k (entry 0 [] 0)).identifier))
         → (k : ℕ) × (k < length (e ∷ es)) × (i ≡ (get_or (e ∷ es) k (entry 0 [] 0)).identifier)
     by true x y on = (0, omega arith, eqb-true i e.identifier x)
     by false x y on =
-        let z : row_in es i ≡ Listed r = rw x at y in
+        let z : row_in es i ≡ Some r = rw x at y in
         let m = on z in
         (suc m.0, omega (arith, m.1), m.2)
 
-some_listed : (f : Listing) {r : Row} → listing_row f ≡ some r → is_listed f ≡ true
-some_listed (Listed r) e = refl
-some_listed Unlisted e = let z : ◌≡◌ {A = ℕ} 0 1 = cc in absurd (omega arith)
+some_listed : (f : Option Row) {r : Row} → listing_row f ≡ some r → is_listed f ≡ true
+some_listed (Some r) e = refl
+some_listed None e = let z : ◌≡◌ {A = ℕ} 0 1 = cc in absurd (omega arith)
 
 -- ---- 7, 8
 

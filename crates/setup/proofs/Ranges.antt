@@ -6,7 +6,7 @@ use native.Mathlib.Omega.{arith}
 use native.Mathlib.Decide.{dec_le}
 use borrow.Author.Tests.{ne_eqb}
 use Rattle.setup.specs.Layout.{row_with, row_at}
-use Rattle.setup.specs.declared.Listing.TheVariants.{Listed, Unlisted}
+use Rattle.std.specs.Prelude.{None, Some}
 
 -- P at each of the n numbers from lo on
 abbrev All : (ℕ → Type 0) → ℕ → ℕ → Type 0
@@ -26,7 +26,7 @@ between P lo (suc n) h i a b = split P lo i a h.0 (λ k. between P (suc lo) n h.
 
 -- the row of an identifier by its place in a range that begins at, or stands for one that would begin at, `base`
 abbrev InPlace : ℕ → Bool → Bool → ℕ → Type 0
-InPlace base warm voltage id = row_at id ≡ Listed (row_with (id - base) warm voltage)
+InPlace base warm voltage id = row_at id ≡ Some (row_with (id - base) warm voltage)
 
 pub groups : (id : ℕ) → 0x90 ≤ id → id < 0x94 → InPlace 0x90 false false id
 unfolding row_at
@@ -51,7 +51,7 @@ module _
     other : (lo hi k : ℕ) → (lo ≤ id → id < hi → ⊥) → lo ≤ k → k < hi → id ≡ k → ⊥
     other lo hi k f p q e = f (omega arith) (omega arith)
 
-    pub unlisted : row_at id ≡ Unlisted
+    pub unlisted : row_at id ≡ None
     unfolding row_at
     unlisted =
         simp (

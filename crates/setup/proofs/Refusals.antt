@@ -12,20 +12,21 @@ use Rattle.setup.specs.Layout.{layout_of, length_in, row_at, groups_carried}
 use Rattle.setup.specs.Setup.{rate_listed, is_listed, any_above, stray_group, stray, setup_rules, ruling_on}
 use Rattle.setup.specs.Setup.{zero_setup, terminated, length_at, length_of}
 use Rattle.setup.specs.declared.Row.{Row}
-use Rattle.setup.specs.declared.Listing.{Listing}
-use Rattle.setup.specs.declared.Listing.TheVariants.{Listed, Unlisted}
+use Rattle.std.specs.Prelude.{Option, None, Some, Ok, Err}
 use Rattle.setup.specs.declared.Setup.{Setup}
-use Rattle.setup.specs.declared.Ruling.TheVariants.{Accepted, Refused}
+use Rattle.refusals.specs.Refusals.{number_of}
+use Rattle.refusals.specs.declared.Refusal.{Refusal}
+use Rattle.refusals.specs.declared.Refusal.TheVariants.{IdentifierUnknown}
 use Rattle.setup.proofs.Layouts.{length_range}
 use Rattle.setup.proofs.Rules.{first_within, none_applies}
 
 -- a setup given as values is refused by 4 to 9 only
-pub judge_numbers : (s : Setup) {n : ℕ} → ruling_on s ≡ Refused n → (4 ≤ n) × (n ≤ 9)
+pub judge_numbers : (s : Setup) {e : Refusal} → ruling_on s ≡ Err e → (4 ≤ number_of e) × (number_of e ≤ 9)
 unfolding ruling_on setup_rules
 judge_numbers s e = first_within 4 9 (setup_rules s) (omega arith) e
 
 -- a setup of zeros is itself refused
-pub zeros_refused : ruling_on zero_setup ≡ Refused 5
+pub zeros_refused : ruling_on zero_setup ≡ Err IdentifierUnknown
 unfolding ruling_on setup_rules row_at
 zeros_refused = refl
 
@@ -33,17 +34,17 @@ zeros_refused = refl
 pub record Known (s : Setup) : Type 0 where
   pub rate : rate_listed s.rate ≡ true
   pub row : Row
-  pub listed : row_at s.identifier ≡ Listed row
+  pub listed : row_at s.identifier ≡ Some row
   pub termination : s.termination ≤ 1
   pub units : any_above 3 s.units ≡ false
   pub shifts : any_above 31 s.shifts ≡ false
   pub plain : stray (groups_carried s.identifier) s.units s.shifts ≡ false
 
-is_listed_lem : (f : Listing) → is_listed f ≡ true → (r : Row) × (f ≡ Listed r)
-is_listed_lem (Listed r) e = (r, refl)
-is_listed_lem Unlisted e = let z : ◌≡◌ {A = ℕ} 0 1 = cc in absurd (omega arith)
+is_listed_lem : (f : Option Row) → is_listed f ≡ true → (r : Row) × (f ≡ Some r)
+is_listed_lem (Some r) e = (r, refl)
+is_listed_lem None e = let z : ◌≡◌ {A = ℕ} 0 1 = cc in absurd (omega arith)
 
-pub accepted : (s : Setup) → ruling_on s ≡ Accepted → Known s
+pub accepted : (s : Setup) → ruling_on s ≡ Ok tt → Known s
 unfolding ruling_on setup_rules
 accepted s e =
     let none = none_applies (setup_rules s) e in
@@ -59,11 +60,11 @@ accepted s e =
     }
 
 -- the length of its datagrams, which are 18 to 65 bytes long
-pub listed_length : (s : Setup) {r : Row} → row_at s.identifier ≡ Listed r → length_of s ≡ length_in (layout_of r (terminated s))
+pub listed_length : (s : Setup) {r : Row} → row_at s.identifier ≡ Some r → length_of s ≡ length_in (layout_of r (terminated s))
 unfolding length_of
 listed_length s e = ap (λ l. length_at l (terminated s)) e
 
-pub accepted_length : (s : Setup) → ruling_on s ≡ Accepted → (18 ≤ length_of s) × (length_of s ≤ 65)
+pub accepted_length : (s : Setup) → ruling_on s ≡ Ok tt → (18 ≤ length_of s) × (length_of s ≤ 65)
 accepted_length s e = let k = accepted s e in rw (listed_length s k.listed) (length_range k.row (terminated s))
 
 -- ---- group by group, counted from 0 in the order gyro, accelerometer, inclinometer
@@ -88,7 +89,7 @@ plain unit shift e =
     let both = or_split (not (eqb unit 0)) (not (eqb shift 0)) e in
     (eqb-true unit 0 (not-false (eqb unit 0) both.0), eqb-true shift 0 (not-false (eqb shift 0) both.1))
 
-pub absent_plain : (s : Setup) → ruling_on s ≡ Accepted → (g : ℕ) → g < 3 → get_or (groups_carried s.identifier) g false ≡ false
+pub absent_plain : (s : Setup) → ruling_on s ≡ Ok tt → (g : ℕ) → g < 3 → get_or (groups_carried s.identifier) g false ≡ false
     → (get_or s.units g 0 ≡ 0) × (get_or s.shifts g 0 ≡ 0)
 absent_plain s e g h absent =
     let at : ℕ → Bool = λ n. stray_group (get_or (groups_carried s.identifier) n false) (get_or s.units n 0) (get_or s.shifts n 0) in

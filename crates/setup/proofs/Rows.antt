@@ -9,11 +9,8 @@ use borrow.Author.Tests.{ne_eqb}
 use lib.ListN.{length, get_or}
 use Rattle.setup.specs.Layout.{gyro, accelerometer, inclinometer, parts_of, row_at, parts_in, parts_at, carries, groups_of, groups_carried}
 use Rattle.setup.specs.Layout.{carrying, Entry, entry, table, row_in, listing_row, listing_number}
-use Rattle.setup.specs.Setup.{is_listed}
-use Rattle.setup.specs.Sensor.{row_of}
 use Rattle.setup.specs.declared.Row.{Row}
-use Rattle.setup.specs.declared.Listing.{Listing}
-use Rattle.setup.specs.declared.Listing.TheVariants.{Listed, Unlisted}
+use Rattle.std.specs.Prelude.{Some}
 
 -- what holds of the sixteen rows holds of every row
 abbrev pub EveryRow : (Row → Type 0) → Type 0
@@ -48,7 +45,7 @@ pub row_parts : (i : ℕ) → parts_at i ≡ parts_in (row_at i)
 unfolding row_at parts_at
 row_parts i = refl
 
-pub listed_parts : (i : ℕ) {r : Row} → row_at i ≡ Listed r → parts_at i ≡ parts_of r
+pub listed_parts : (i : ℕ) {r : Row} → row_at i ≡ Some r → parts_at i ≡ parts_of r
 listed_parts i e = row_parts i ∙ ap parts_in e
 
 -- and so are its groups
@@ -59,16 +56,9 @@ row_groups : (r : Row) → Carrying r
 unfolding parts_of
 row_groups = every_row Carrying ((refl, refl, refl, refl), (refl, refl, refl, refl), (refl, refl, refl, refl), (refl, refl, refl, refl))
 
-pub listed_groups : (i : ℕ) {r : Row} → row_at i ≡ Listed r → groups_carried i ≡ groups_of r
+pub listed_groups : (i : ℕ) {r : Row} → row_at i ≡ Some r → groups_carried i ≡ groups_of r
 unfolding groups_carried
 listed_groups i {r} e = rw (listed_parts i e) (row_groups r)
-
-pub carried_groups : (i : ℕ) → is_listed (row_at i) ≡ true → groups_carried i ≡ groups_of (row_of (row_at i))
-carried_groups i = by (row_at i) refl
-  where
-    by : (l : Listing) → row_at i ≡ l → is_listed l ≡ true → groups_carried i ≡ groups_of (row_of l)
-    by (Listed r) h e = listed_groups i h
-    by Unlisted h e = let z : ◌≡◌ {A = ℕ} 0 1 = cc in absurd (omega arith)
 
 -- ---- what the table says of an identifier
 

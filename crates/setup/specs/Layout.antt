@@ -1,11 +1,10 @@
 -- 01, Layout by identifier (001, 5.5.6 and Table 5-22). A layout is a row of data: the list of its parts in 01's order, the check, the ending;
 -- where a part begins and how long a datagram is are functions of it.
-use Rattle.std.specs.Prelude.{ℕ, ◌+◌, ◌/◌, ◌%◌, Bool, true, false, ◌||◌, cond, List, [], ◌∷◌, ◌++◌, eqb, length}
-use Rattle.std.proofs.Math.Option.{Option, none, some}
+use Rattle.std.specs.Prelude.{ℕ, ◌+◌, ◌/◌, ◌%◌, Bool, true, false, ◌||◌, cond, List, [], ◌∷◌, ◌++◌, eqb, length, Option, None, Some}
+use Rattle.std.proofs.Math.Option as math
+use Rattle.std.proofs.Math.Option.{none, some}
 use Rattle.crc.specs.Check.{Parameters, stim300}
 use Rattle.setup.specs.declared.Row.{Row}
-use Rattle.setup.specs.declared.Listing.{Listing}
-use Rattle.setup.specs.declared.Listing.TheVariants.{Listed, Unlisted}
 
 -- the parts before the check
 pub data Part : Type 0 where
@@ -121,26 +120,26 @@ table =
     []
 
 -- what the table says of an identifier
-abbrev pub row_in : List Entry → ℕ → Listing
-row_in [] i = Unlisted
-row_in (e ∷ es) i = cond (eqb i e.identifier) (Listed (carrying e.carries)) (row_in es i)
+abbrev pub row_in : List Entry → ℕ → Option Row
+row_in [] i = None
+row_in (e ∷ es) i = cond (eqb i e.identifier) (Some (carrying e.carries)) (row_in es i)
 
-unfoldable pub row_at : ℕ → Listing
+unfoldable pub row_at : ℕ → Option Row
 row_at i = row_in table i
 
 -- what each case says: the row, or 5, which refuses an identifier that isn't in the table
-abbrev pub listing_row : Listing → Option Row
-listing_row (Listed r) = some r
-listing_row Unlisted = none
+abbrev pub listing_row : Option Row → math.Option Row
+listing_row (Some r) = some r
+listing_row None = none
 
-abbrev pub listing_number : Listing → Option ℕ
-listing_number (Listed r) = none
-listing_number Unlisted = some 5
+abbrev pub listing_number : Option Row → math.Option ℕ
+listing_number (Some r) = none
+listing_number None = some 5
 
 -- the parts that the table gives an identifier, none where it isn't in the table
-abbrev pub parts_in : Listing → List Part
-parts_in (Listed r) = parts_of r
-parts_in Unlisted = []
+abbrev pub parts_in : Option Row → List Part
+parts_in (Some r) = parts_of r
+parts_in None = []
 
 unfoldable pub parts_at : ℕ → List Part
 parts_at i = parts_in (row_in table i)

@@ -2,11 +2,14 @@
 // The setup of a sensor: its values and the layout of its datagrams (01, The setup line, Layout by identifier).
 ghost use Rattle.std.specs.Prelude.{◌≡◌};
 ghost use Rattle.setup.specs.Layout.{row_with, row_at, groups_of};
-ghost use Rattle.setup.specs.Setup.{rate_listed, is_listed, any_above, stray_group, stray, ruling_on};
-ghost use Rattle.setup.specs.Sensor.{rate_of, unit_of, units_of, row_of, sensor_of, description_of};
+ghost use Rattle.setup.specs.Setup.{any_above, stray_group, stray, ruling_on, zero_setup};
+ghost use Rattle.setup.specs.Sensor.{rate_by, unit_by, units_by, shifts_by, terminated_by, description_of};
+
+use groups::PerGroup;
+use refusals::Refusal;
 
 // What a datagram carries beside the gyro group, the counter and the latency (01, Layout by identifier).
-#[derive(Clone, Copy)]
+#[derive(Clone, Copy, Debug, PartialEq, Eq)]
 pub struct Row {
     pub acceleration: bool,
     pub inclination: bool,
@@ -14,15 +17,8 @@ pub struct Row {
     pub aux: bool,
 }
 
-// What the table says of an identifier.
-#[derive(Clone, Copy)]
-pub enum Listing {
-    Listed(Row),
-    Unlisted,
-}
-
 // The output unit of a group.
-#[derive(Clone, Copy)]
+#[derive(Clone, Copy, Debug, PartialEq, Eq)]
 pub enum Unit {
     Instantaneous,
     Incremental,
@@ -31,7 +27,7 @@ pub enum Unit {
 }
 
 // The sample rate.
-#[derive(Clone, Copy)]
+#[derive(Clone, Copy, Debug, PartialEq, Eq)]
 pub enum Rate {
     ExternalTrigger,
     Hertz125,
@@ -41,22 +37,12 @@ pub enum Rate {
     Hertz2000,
 }
 
-#[derive(Clone, Copy)]
-pub struct Units {
-    pub gyro: Unit,
-    pub accelerometer: Unit,
-    pub inclinometer: Unit,
-}
+pub type Units = PerGroup<Unit>;
 
-#[derive(Clone, Copy)]
-pub struct Shifts {
-    pub gyro: u16,
-    pub accelerometer: u16,
-    pub inclinometer: u16,
-}
+pub type Shifts = PerGroup<u16>;
 
 // What an accepted setup says of its sensor.
-#[derive(Clone, Copy)]
+#[derive(Clone, Copy, Debug, PartialEq, Eq)]
 pub struct Sensor {
     pub identifier: u8,
     pub row: Row,
@@ -67,15 +53,8 @@ pub struct Sensor {
     pub shifts: Shifts,
 }
 
-// The sensor that an accepted setup describes, or the number that refuses the setup.
-#[derive(Clone, Copy)]
-pub enum Described {
-    Accepted(Sensor),
-    Refused(u8),
-}
-
 // A setup as values. The numbers are wide enough for every field of a line, so that each reaches its check unnarrowed.
-#[derive(Clone, Copy)]
+#[derive(Clone, Copy, Debug, Default, PartialEq, Eq)]
 pub struct Setup {
     pub rate: u16,
     pub identifier: u8,
@@ -85,10 +64,13 @@ pub struct Setup {
     pub shifts: [u16; 3],
 }
 
-#[derive(Clone, Copy)]
-pub enum Ruling {
-    Accepted,
-    Refused(u8),
+impl Setup {
+    // A setup of zeros, which is refused.
+    pub fn zeros() -> Setup
+        ensures { result ≡ zero_setup }
+    {
+        Setup::default()
+    }
 }
 
 // A row by the place of its identifier in a range of the table: 0 the gyro alone, 1 with acceleration, 2 with inclination, 3 with both.
@@ -103,95 +85,90 @@ fn row_with(groups: u8, temperatures: bool, aux: bool) -> Row
     }
 }
 
-// What the table says of an identifier.
-pub fn row_of(identifier: u8) -> Listing
+// What a datagram of an identifier carries, none for one that isn't in the table.
+#[tactic(auto, unfolding(crate::specs::Layout::row_at), using(crate::proofs::Ranges::groups, crate::proofs::Ranges::groups_aux, crate::proofs::Ranges::warm, crate::proofs::Ranges::warm_aux, crate::proofs::Ranges::unlisted))]
+pub fn row_of(identifier: u8) -> Option<Row>
     ensures { result ≡ row_at identifier }
 {
     match identifier {
-        0x90..=0x93 => Listing::Listed(row_with(identifier - 0x90, false, false)),
-        0x94 => Listing::Listed(row_with(0, true, false)),
-        0x98..=0x9B => Listing::Listed(row_with(identifier - 0x98, false, true)),
-        0x9C => Listing::Listed(row_with(0, true, true)),
-        0xA5..=0xA7 => Listing::Listed(row_with(identifier - 0xA4, true, false)),
-        0xAD..=0xAF => Listing::Listed(row_with(identifier - 0xAC, true, true)),
-        _ => Listing::Unlisted,
+        0x90..=0x93 => Some(row_with(identifier - 0x90, false, false)),
+        0x94 => Some(row_with(0, true, false)),
+        0x98..=0x9B => Some(row_with(identifier - 0x98, false, true)),
+        0x9C => Some(row_with(0, true, true)),
+        0xA5..=0xA7 => Some(row_with(identifier - 0xA4, true, false)),
+        0xAD..=0xAF => Some(row_with(identifier - 0xAC, true, true)),
+        _ => None,
     }
 }
 
-fn is_listed(listing: Listing) -> bool
-    ensures { result ≡ is_listed listing }
-{
-    match listing {
-        Listing::Listed(_) => true,
-        Listing::Unlisted => false,
+impl TryFrom<u16> for Rate {
+    type Error = Refusal;
+
+    ghost try_from_gives = { λ number r. r ≡ rate_by number };
+
+    #[tactic(auto, unfolding(crate::specs::Sensor::rate_of))]
+    fn try_from(number: u16) -> Result<Rate, Refusal> {
+        match number {
+            0 => Ok(Rate::ExternalTrigger),
+            125 => Ok(Rate::Hertz125),
+            250 => Ok(Rate::Hertz250),
+            500 => Ok(Rate::Hertz500),
+            1000 => Ok(Rate::Hertz1000),
+            2000 => Ok(Rate::Hertz2000),
+            _ => Err(Refusal::RateUnknown),
+        }
     }
 }
 
-// The row of an identifier that is in the table.
-fn listed_row(listing: Listing) -> Row
-    ensures { result ≡ row_of listing }
-{
-    match listing {
-        Listing::Listed(row) => row,
-        Listing::Unlisted => Row {
-            acceleration: false,
-            inclination: false,
-            temperatures: false,
-            aux: false,
-        },
+impl TryFrom<u16> for Unit {
+    type Error = Refusal;
+
+    ghost try_from_gives = { λ number r. r ≡ unit_by number };
+
+    #[tactic(auto, unfolding(crate::specs::Sensor::unit_of))]
+    fn try_from(number: u16) -> Result<Unit, Refusal> {
+        match number {
+            0 => Ok(Unit::Instantaneous),
+            1 => Ok(Unit::Incremental),
+            2 => Ok(Unit::Average),
+            3 => Ok(Unit::Integrated),
+            _ => Err(Refusal::UnitTooGreat),
+        }
     }
 }
 
-// The rate of a number; external trigger also for one that is no rate.
-fn rate_of(number: u16) -> Rate
-    ensures { result ≡ rate_of number }
+// The units of the groups, in the order gyro, accelerometer, inclinometer.
+fn units_of(numbers: [u16; 3]) -> Result<Units, Refusal>
+    ensures { result ≡ units_by numbers }
 {
-    match number {
-        125 => Rate::Hertz125,
-        250 => Rate::Hertz250,
-        500 => Rate::Hertz500,
-        1000 => Rate::Hertz1000,
-        2000 => Rate::Hertz2000,
-        _ => Rate::ExternalTrigger,
-    }
-}
-
-fn rate_listed(number: u16) -> bool
-    ensures { result ≡ rate_listed number }
-{
-    let rate = rate_of(number);
-    match rate {
-        Rate::ExternalTrigger => number == 0,
-        Rate::Hertz125 => true,
-        Rate::Hertz250 => true,
-        Rate::Hertz500 => true,
-        Rate::Hertz1000 => true,
-        Rate::Hertz2000 => true,
-    }
-}
-
-// The unit of a number; integrated also for one above 3.
-fn unit_of(number: u16) -> Unit
-    ensures { result ≡ unit_of number }
-{
-    match number {
-        0 => Unit::Instantaneous,
-        1 => Unit::Incremental,
-        2 => Unit::Average,
-        _ => Unit::Integrated,
-    }
-}
-
-fn units_of(numbers: [u16; 3]) -> Units
-    ensures { result ≡ units_of numbers }
-{
-    let gyro = unit_of(numbers[0]);
-    let accelerometer = unit_of(numbers[1]);
-    let inclinometer = unit_of(numbers[2]);
-    Units {
+    let gyro = Unit::try_from(numbers[0])?;
+    let accelerometer = Unit::try_from(numbers[1])?;
+    let inclinometer = Unit::try_from(numbers[2])?;
+    Ok(PerGroup {
         gyro: gyro,
         accelerometer: accelerometer,
         inclinometer: inclinometer,
+    })
+}
+
+// Their shifts.
+fn shifts_of(numbers: [u16; 3]) -> Result<Shifts, Refusal>
+    ensures { result ≡ shifts_by numbers }
+{
+    if any_above(31, numbers) {
+        return Err(Refusal::ShiftTooGreat);
+    }
+    Ok(PerGroup::of(numbers))
+}
+
+// Whether the ending follows the check.
+fn is_terminated(termination: u16) -> Result<bool, Refusal>
+    ensures { result ≡ terminated_by termination }
+{
+    match termination {
+        0 => Ok(false),
+        1 => Ok(true),
+        _ => Err(Refusal::TerminationUnknown),
     }
 }
 
@@ -222,71 +199,34 @@ fn stray(carried: [bool; 3], units: [u16; 3], shifts: [u16; 3]) -> bool
         | stray_group(carried[2], units[2], shifts[2])
 }
 
-// The ruling on a setup of whose identifier the table says `listing`: 4 to 9 in checking order.
-fn ruling_by(setup: Setup, listing: Listing) -> Ruling
-    requires { listing ≡ row_at setup.identifier }
-    ensures { result ≡ ruling_on setup }
-{
-    if !rate_listed(setup.rate) {
-        return Ruling::Refused(4);
-    }
-    if !is_listed(listing) {
-        return Ruling::Refused(5);
-    }
-    if 1 < setup.termination {
-        return Ruling::Refused(6);
-    }
-    let units = setup.units;
-    if any_above(3, units) {
-        return Ruling::Refused(7);
-    }
-    let shifts = setup.shifts;
-    if any_above(31, shifts) {
-        return Ruling::Refused(8);
-    }
-    if stray(groups_of(listed_row(listing)), units, shifts) {
-        return Ruling::Refused(9);
-    }
-    Ruling::Accepted
-}
-
-// Whether a setup given as values is accepted, or the number that refuses it.
-pub fn judge(setup: Setup) -> Ruling
-    ensures { result ≡ ruling_on setup }
-{
-    ruling_by(setup, row_of(setup.identifier))
-}
-
-fn sensor_of(setup: Setup, row: Row) -> Sensor
-    requires { row ≡ row_of (row_at setup.identifier) }
-    ensures { result ≡ sensor_of setup }
-{
-    let rate = rate_of(setup.rate);
-    let numbers = setup.units;
-    let units = units_of(numbers);
-    let shifts = setup.shifts;
-    Sensor {
-        identifier: setup.identifier,
-        row: row,
-        terminated: setup.termination == 1,
-        rate: rate,
-        units: units,
-        shifts: Shifts {
-            gyro: shifts[0],
-            accelerometer: shifts[1],
-            inclinometer: shifts[2],
-        },
-    }
-}
-
-// The sensor that a setup describes, or the number that refuses the setup.
-pub fn describe(setup: Setup) -> Described
+// The sensor that a setup describes, or what refuses the setup: 4 to 9 in checking order.
+#[tactic(auto, using(crate::proofs::Sensors::described_in_turn))]
+pub fn describe(setup: Setup) -> Result<Sensor, Refusal>
     ensures { result ≡ description_of setup }
 {
-    let listing = row_of(setup.identifier);
-    let ruling = ruling_by(setup, listing);
-    match ruling {
-        Ruling::Accepted => Described::Accepted(sensor_of(setup, listed_row(listing))),
-        Ruling::Refused(number) => Described::Refused(number),
+    let rate = Rate::try_from(setup.rate)?;
+    let row = row_of(setup.identifier).ok_or(Refusal::IdentifierUnknown)?;
+    let terminated = is_terminated(setup.termination)?;
+    let units = units_of(setup.units)?;
+    let shifts = shifts_of(setup.shifts)?;
+    if stray(groups_of(row), setup.units, setup.shifts) {
+        return Err(Refusal::GroupNotCarried);
     }
+    Ok(Sensor {
+        identifier: setup.identifier,
+        row: row,
+        terminated: terminated,
+        rate: rate,
+        units: units,
+        shifts: shifts,
+    })
+}
+
+// Whether a setup given as values is accepted, or what refuses it.
+#[tactic(auto, using(crate::proofs::Sensors::ruled_as_described))]
+pub fn judge(setup: Setup) -> Result<(), Refusal>
+    ensures { result ≡ ruling_on setup }
+{
+    describe(setup)?;
+    Ok(())
 }

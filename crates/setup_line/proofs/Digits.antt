@@ -4,14 +4,15 @@ use native.Mathlib.Nat.{pow-suc, pow-le-pow_right}
 use native.Mathlib.Numerals.{add-one}
 use native.Mathlib.Omega.{arith}
 use mathlib.Core.Bool.{Bool, true, false, ◌&&◌, ◌||◌, cond}
-use mathlib.Core.List.{List}
+use mathlib.Core.List.{List, [], ◌∷◌}
 use mathlib.Core.Path.{◌≡◌, refl, ap, ◌∙◌}
 use lib.Dec.{leb}
 use lib.ListN.{length, get_or, drop, drop_of_length-le}
+use lib.Seq.{drop-cons}
+use Rattle.std.specs.List.{list_all}
 use borrow.Author.Tests.{leb-true}
 use Rattle.integers.proofs.Booleans.{and_split}
 use Rattle.setup_line.specs.SetupLine.{is_digit, is_hex_digit, digit_value, all_digits, decimal_from}
-use Rattle.setup_line.proofs.Fields.{drop_next}
 
 second : (a b : Bool) → a ≡ false → (a || b) ≡ true → b ≡ true
 second true b f e = let z : ◌≡◌ {A = ℕ} 0 1 = cc in absurd (omega arith)
@@ -34,22 +35,15 @@ value_by b false false d e = omega arith
 pub value_small : (b : ℕ) → digit_value b ≤ 15
 value_small b = value_by b (is_digit b) (is_hex_digit b) refl refl
 
+pub digits_each : (s : List ℕ) → all_digits s ≡ list_all is_digit s
+unfolding all_digits
+digits_each [] = refl
+digits_each (b ∷ s) = ap (λ (t : Bool). is_digit b && t) (digits_each s)
+
 module _ (s : List ℕ) (i : ℕ) where
-  pub digits_more : i < length s → is_digit (get_or s i 0) ≡ true → all_digits (drop i s) ≡ all_digits (drop (i + 1) s)
-  unfolding all_digits
-  digits_more h e = rw (drop_next s i h, e)
-
-  pub digits_stop : i < length s → is_digit (get_or s i 0) ≡ false → all_digits (drop i s) ≡ false
-  unfolding all_digits
-  digits_stop h e = rw (drop_next s i h, e)
-
-  pub digits_end : length s ≤ i → all_digits (drop i s) ≡ true
-  unfolding all_digits
-  digits_end h = rw (drop_of_length-le s h)
-
   pub decimal_next : (n : ℕ) → i < length s → decimal_from n (drop i s) ≡ decimal_from (n * 10 + digit_value (get_or s i 0)) (drop (i + 1) s)
   unfolding decimal_from
-  decimal_next n h = rw (drop_next s i h)
+  decimal_next n h = rw (add-one, drop-cons s i 0)
 
   pub decimal_end : (n : ℕ) → length s ≤ i → decimal_from n (drop i s) ≡ n
   unfolding decimal_from

@@ -1,27 +1,21 @@
--- Laws of where a line ends, as a loop comes to it.
-use Prim.Native.Nat.{ℕ, suc, ◌+◌, ◌≤◌, ◌<◌}
+-- Where a line ends is the place of the first 0x0A, within the bytes.
+use Prim.Native.Nat.{ℕ, suc, ◌≤◌}
 use mathlib.Core.Bool.{Bool, true, false, cond}
-use mathlib.Core.Path.{◌≡◌, ap}
+use mathlib.Core.Path.{◌≡◌, refl, ap}
 use mathlib.Core.List.{List, [], ◌∷◌}
-use native.Mathlib.Numerals.{add-one}
 use native.Mathlib.Omega.{arith}
-use lib.Dec.{eqb}
-use lib.ListN.{length, drop, get_or, drop_of_length-le}
-use lib.Seq.{drop-cons}
-use borrow.Author.Tests.{eq-eqb, ne_eqb}
+use lib.Dec.{eqb, ltb}
+use lib.ListN.{length}
+use borrow.Author.Tests.{ltb-false}
+use Rattle.std.specs.List.{position, position_or_len}
+use Rattle.std.specs.Option.{unwrap_or}
+use Rattle.std.specs.Prelude.{Some, None}
+use Rattle.std.proofs.lemmas.List.Recursion.{is_position_or_len}
 use Rattle.setup_line.specs.SetupLine.{line_end}
 
-pub ends_here : (s : List ℕ) (i : ℕ) → i < length s → get_or s i 0 ≡ 0x0A → line_end (drop i s) ≡ 0
+end_place : (s : List ℕ) → line_end s ≡ position_or_len (λ b. eqb b 0x0A) s
 unfolding line_end
-ends_here s i h e = rw (drop-cons s i 0, eq-eqb _ _ e)
-
-pub ends_later : (s : List ℕ) (i : ℕ) → i < length s → (get_or s i 0 ≡ 0x0A → ⊥) → line_end (drop i s) ≡ 1 + line_end (drop (i + 1) s)
-unfolding line_end
-ends_later s i h n = rw (add-one, drop-cons s i 0, ne_eqb _ _ n) (omega arith)
-
-pub ends_last : (s : List ℕ) (i : ℕ) → length s ≤ i → line_end (drop i s) ≡ 0
-unfolding line_end
-ends_last s i h = ap line_end (drop_of_length-le s h)
+end_place s = is_position_or_len line_end (λ b. eqb b 0x0A) refl (λ b t. ap (λ n. cond (eqb b 0x0A) 0 n) (omega arith)) s
 
 -- within the bytes
 end_within : (s : List ℕ) → line_end s ≤ length s
@@ -32,6 +26,14 @@ end_within (b ∷ s) = by (eqb b 0x0A) (end_within s)
     by : (t : Bool) → line_end s ≤ length s → cond t 0 (suc (line_end s)) ≤ suc (length s)
     by true h = omega arith
     by false h = omega arith
+
+-- its place, or the end where there is none
+place_or_end : (n m : ℕ) (t : Bool) → ltb n m ≡ t → n ≤ m → unwrap_or (cond t (Some n) None) m ≡ n
+place_or_end n m true e h = refl
+place_or_end n m false e h = omega (arith, ltb-false n m e)
+
+pub end_found : (s : List ℕ) → unwrap_or (position (λ b. eqb b 0x0A) s) (length s) ≡ line_end s
+end_found s = rw (← end_place s) (place_or_end (line_end s) (length s) (ltb (line_end s) (length s)) refl (end_within s))
 
 -- so what a call gives
 pub end_by : (s : List ℕ) {r : ℕ} → r ≡ line_end s → (r ≡ line_end s) × (r ≤ length s)

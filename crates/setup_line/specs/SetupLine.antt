@@ -1,10 +1,11 @@
 -- 01, The setup line: its nine fields, how each is written, and what is turned down of a line by 1 to 9.
-use Rattle.std.specs.Prelude.{ℕ, suc, ◌+◌, ◌*◌, ◌-◌, Bool, true, not, ◌&&◌, ◌||◌, cond, List, [], ◌∷◌, eqb, ltb, leb, length, get_or}
+use Rattle.std.specs.Prelude.{ℕ, suc, ◌+◌, ◌*◌, ◌-◌, Bool, true, not, ◌&&◌, ◌||◌, cond, List, [], ◌∷◌, eqb, ltb, leb, length, get_or, Result, Ok, Err}
+use Rattle.refusals.specs.Refusals.{Ruling, unless_refused}
+use Rattle.refusals.specs.declared.Refusal.{Refusal}
+use Rattle.refusals.specs.declared.Refusal.TheVariants.{LineLength, FieldCount, FieldForm}
 use Rattle.setup.specs.Setup.{Rule, rule, first_of, setup_rules, zero_setup}
 use Rattle.setup.specs.declared.Setup.{Setup}
 use Rattle.setup_line.specs.declared.LineRead.{LineRead}
-use Rattle.setup.specs.declared.Ruling.{Ruling}
-use Rattle.setup.specs.declared.Ruling.TheVariants.{Accepted, Refused}
 
 -- a byte put in front of the first of some fields
 abbrev pub in_front : ℕ → List (List ℕ) → List (List ℕ)
@@ -81,15 +82,19 @@ setup_written line =
 -- the rules for a line, those for the setup that it writes behind its own
 unfoldable pub line_rules : List ℕ → List Rule
 line_rules line =
-    rule 1 (eqb (length line) 0 || ltb 64 (length line)) ∷
-    rule 2 (not (eqb (length (fields_of line)) 9)) ∷
-    rule 3 (not (line_written line)) ∷
+    rule LineLength (eqb (length line) 0 || ltb 64 (length line)) ∷
+    rule FieldCount (not (eqb (length (fields_of line)) 9)) ∷
+    rule FieldForm (not (line_written line)) ∷
     setup_rules (setup_written line)
+
+-- the setup that a line writes, or what refuses it
+unfoldable pub accepted_setup : List ℕ → Result Setup Refusal
+accepted_setup line = unless_refused (first_of (line_rules line)) (setup_written line)
 
 -- a refused line gives back a setup of zeros
 abbrev pub read_with : Ruling → Setup → LineRead
-read_with Accepted s = record { answer = Accepted; setup = s }
-read_with (Refused n) s = record { answer = Refused n; setup = zero_setup }
+read_with (Ok accepted) s = record { answer = Ok tt; setup = s }
+read_with (Err e) s = record { answer = Err e; setup = zero_setup }
 
 unfoldable pub line_read : List ℕ → LineRead
 line_read line = read_with (first_of (line_rules line)) (setup_written line)

@@ -1,101 +1,55 @@
 #![tactic(auto)]
 // The line that writes a setup down (01, The setup line).
-ghost use Rattle.std.specs.Prelude.{◌≡◌, true, ◌+◌, ◌≤◌, ◌<◌, length, drop};
-ghost use Rattle.setup.specs.Setup.{zero_setup};
-ghost use Rattle.setup.specs.declared.Ruling.TheVariants.{Refused};
-ghost use Rattle.setup_line.specs.SetupLine.{fields_of, field_at, is_hex_digit, is_digit, digit_value, all_digits, decimal_written, identifier_written, decimal_value, identifier_value, three_written, three_values, line_written, setup_written, line_read, line_end};
+ghost use Rattle.std.specs.Prelude.{◌≡◌, true, ◌≤◌, ◌<◌, length};
+ghost use Rattle.setup_line.specs.SetupLine.{fields_of, field_at, is_hex_digit, digit_value, all_digits, decimal_written, identifier_written, decimal_value, identifier_value, three_written, three_values, line_written, setup_written, accepted_setup, line_read, line_end};
 
-use setup::{Ruling, Setup};
+use refusals::Refusal;
+use setup::Setup;
 
-// What a line gives back: the ruling, and the setup that it writes, zeros where it is refused.
-#[derive(Clone, Copy)]
+// What a line gives back: the ruling, and the setup that it writes. It stands beside the ruling since a refused line gives back a setup of zeros (01,
+// What is turned down).
+#[derive(Clone, Copy, Debug, PartialEq, Eq)]
 pub struct LineRead {
-    pub answer: Ruling,
+    pub answer: Result<(), Refusal>,
     pub setup: Setup,
-}
-
-// The end of the field that begins at `from`: the next comma, or the end of the line.
-fn field_end(line: &[u8], from: usize) -> usize
-    requires { from ≤ length line.now }
-    ensures { result ≡ from + length (field_at (drop from line.now) 0) }
-{
-    let mut i = from;
-    while i < line.len() {
-        if line[i] == 0x2C {
-            return i;
-        }
-        i += 1;
-    }
-    i
 }
 
 // The field k of a line, counted from 0; empty where the line has fewer.
 pub fn field(line: &[u8], k: usize) -> &[u8]
     ensures { result.now ≡ field_at line.now k }
 {
-    let mut at: usize = 0;
-    let mut left = k;
-    while 0 < left {
-        let end = field_end(line, at);
-        if line.len() <= end {
-            return &line[end..];
-        }
-        at = end + 1;
-        left -= 1;
-    }
-    let end = field_end(line, at);
-    &line[at..end]
+    line.split(|b| *b == b',').nth(k).unwrap_or(&[])
 }
 
 // How many fields a line has.
 pub fn field_count(line: &[u8]) -> usize
     ensures { result ≡ length (fields_of line.now) }
 {
-    let mut count: usize = 1;
-    let mut i: usize = 0;
-    while i < line.len() {
-        if line[i] == 0x2C {
-            count += 1;
-        }
-        i += 1;
-    }
-    count
-}
-
-fn is_digit(b: u8) -> bool
-    ensures { result ≡ is_digit b }
-{
-    (0x30 <= b) & (b <= 0x39)
+    line.iter().filter(|b| **b == b',').count() + 1
 }
 
 fn is_hex_digit(b: u8) -> bool
     ensures { result ≡ is_hex_digit b }
 {
-    ((0x30 <= b) & (b <= 0x39)) | ((0x41 <= b) & (b <= 0x46))
+    b.is_ascii_digit() | (b'A'..=b'F').contains(&b)
 }
 
 // The value of a digit 0 to 9 or A to F; 0 for any other byte.
 pub fn digit_value(b: u8) -> u8
     ensures { result ≡ digit_value b }
 {
-    if (0x30 <= b) & (b <= 0x39) {
-        return b - 0x30;
+    match b {
+        b'0'..=b'9' => b - b'0',
+        b'A'..=b'F' => b - b'A' + 10,
+        _ => 0,
     }
-    if is_hex_digit(b) { b - 0x37 } else { 0 }
 }
 
 // Whether every byte is a digit 0 to 9.
 pub fn all_digits(text: &[u8]) -> bool
     ensures { result ≡ all_digits text.now }
 {
-    let mut i: usize = 0;
-    while i < text.len() {
-        if !is_digit(text[i]) {
-            return false;
-        }
-        i += 1;
-    }
-    true
+    text.iter().all(|b| b.is_ascii_digit())
 }
 
 fn decimal_written(text: &[u8]) -> bool
@@ -122,11 +76,9 @@ fn decimal_value(text: &[u8]) -> u16
     requires { length text.now ≤ 4 }
     ensures { result ≡ decimal_value text.now }
 {
-    let mut number: u16 = 0;
-    let mut i: usize = 0;
-    while i < text.len() {
-        number = number * 10 + digit_value(text[i]) as u16;
-        i += 1;
+    let mut number = 0;
+    for b in text {
+        number = number * 10 + u16::from(digit_value(*b));
     }
     number
 }
@@ -196,52 +148,40 @@ fn setup_written(line: &[u8]) -> Setup
     }
 }
 
-// What a refused line gives back.
-fn zero_setup() -> Setup
-    ensures { result ≡ zero_setup }
+// The setup that a line writes, or what refuses the line: 1 to 9 in checking order.
+#[tactic(auto, using(crate::proofs::LineAnswers::accepted_in_turn))]
+fn accepted_setup(line: &[u8]) -> Result<Setup, Refusal>
+    ensures { result ≡ accepted_setup line.now }
 {
-    Setup {
-        rate: 0,
-        identifier: 0,
-        termination: 0,
-        units: [0; 3],
-        shifts: [0; 3],
+    let n = line.len();
+    if (n == 0) | (64 < n) {
+        return Err(Refusal::LineLength);
     }
+    if field_count(line) != 9 {
+        return Err(Refusal::FieldCount);
+    }
+    if !line_written(line) {
+        return Err(Refusal::FieldForm);
+    }
+    let setup = setup_written(line);
+    setup::judge(setup)?;
+    Ok(setup)
 }
 
-// A refused line: the number, and the setup that is given back with it.
-fn line_refused(number: u8, setup: Setup) -> LineRead
-    ensures { result ≡ record { answer = Refused number; setup = setup } }
-{
-    LineRead {
-        answer: Ruling::Refused(number),
-        setup: setup,
-    }
-}
-
-// The setup that a line writes, or the number that refuses the line: 1 to 9 in checking order.
+// The same, with what a refused line gives back: zeros.
+#[tactic(auto, using(crate::proofs::LineAnswers::read_as_accepted))]
 pub fn read_line(line: &[u8]) -> LineRead
     ensures { result ≡ line_read line.now }
 {
-    let zeros = zero_setup();
-    let n = line.len();
-    if (n == 0) | (64 < n) {
-        return line_refused(1, zeros);
-    }
-    if field_count(line) != 9 {
-        return line_refused(2, zeros);
-    }
-    if !line_written(line) {
-        return line_refused(3, zeros);
-    }
-    let setup = setup_written(line);
-    let answer = setup::judge(setup);
-    match answer {
-        Ruling::Accepted => LineRead {
-            answer: Ruling::Accepted,
+    match accepted_setup(line) {
+        Ok(setup) => LineRead {
+            answer: Ok(()),
             setup: setup,
         },
-        Ruling::Refused(number) => line_refused(number, zeros),
+        Err(refusal) => LineRead {
+            answer: Err(refusal),
+            setup: Setup::zeros(),
+        },
     }
 }
 
@@ -249,12 +189,8 @@ pub fn read_line(line: &[u8]) -> LineRead
 pub fn line_end(bytes: &[u8]) -> usize
     ensures { result ≡ line_end bytes.now }
 {
-    let mut i: usize = 0;
-    while i < bytes.len() {
-        if bytes[i] == 0x0A {
-            return i;
-        }
-        i += 1;
-    }
-    i
+    bytes
+        .iter()
+        .position(|b| *b == b'\n')
+        .unwrap_or(bytes.len())
 }

@@ -11,23 +11,24 @@ use lib.ListN.{length, drop}
 use Rattle.integers.proofs.Booleans.{or_split}
 use Rattle.integers.proofs.Buffers.{put_front}
 use Rattle.gaps.specs.declared.Gap.{Gap}
-use Rattle.motion.specs.declared.Totals.{Totals}
+use Rattle.motion.specs.Totals.{Totals}
 use Rattle.integers.specs.Buffers.{Put}
 use Rattle.shown_line.specs.Putting.{room_answer, room_buffer}
 use Rattle.shown_line.specs.ShownLine.{shown_text, readings_fit, totals_within, outside}
 use Rattle.shown_line.specs.ShownLine.{shown_rules, shown_ruling, shown_answer, shown_buffer}
 use Rattle.shown_line.specs.declared.Shown.{Shown}
-use Rattle.shown_line.specs.declared.Written.{Written}
-use Rattle.shown_line.specs.declared.Written.TheVariants.{Line, Refused}
+use Rattle.std.specs.Prelude.{Result, Ok, Err}
+use Rattle.refusals.specs.declared.Refusal.{Refusal}
+use Rattle.refusals.specs.declared.Refusal.TheVariants.{LineOutside, LineRoom}
 
 -- ---- a text and a buffer
 
 module _ (b text : List ℕ) where
-  pub room_short : length b < length text → (Refused 14 ≡ room_answer b text) × (b ≡ room_buffer b text)
+  pub room_short : length b < length text → (Err LineRoom ≡ room_answer b text) × (b ≡ room_buffer b text)
   unfolding room_answer room_buffer
   room_short h = rw (lt-ltb (length b) (length text) h) (refl, refl)
 
-  pub room_enough : length text ≤ length b → (Line (length text) ≡ room_answer b text) × (text ++ drop (length text) b ≡ room_buffer b text)
+  pub room_enough : length text ≤ length b → (Ok (length text) ≡ room_answer b text) × (text ++ drop (length text) b ≡ room_buffer b text)
   unfolding room_answer room_buffer
   room_enough h = rw (le-ltb (length b) (length text) h) (refl, refl)
 
@@ -48,13 +49,13 @@ module _ (b : List ℕ) (shown : Shown) (ordinal counter latency : ℕ) (gap : G
   abbrev text : List ℕ
   text = shown_text shown ordinal counter latency gap readings statuses totals
 
-  abbrev answer : Written
+  abbrev answer : Result ℕ Refusal
   answer = shown_answer b shown ordinal counter latency gap readings statuses totals
 
   abbrev buffer : List ℕ
   buffer = shown_buffer b shown ordinal counter latency gap readings statuses totals
 
-  pub values_refused : outside ordinal readings totals ≡ true → (Refused 13 ≡ answer) × (b ≡ buffer)
+  pub values_refused : outside ordinal readings totals ≡ true → (Err LineOutside ≡ answer) × (b ≡ buffer)
   unfolding shown_answer shown_buffer shown_ruling shown_rules
   values_refused h = rw h (refl, refl)
 
@@ -65,10 +66,10 @@ module _ (b : List ℕ) (shown : Shown) (ordinal counter latency : ℕ) (gap : G
     room_left = rw h (refl, refl)
 
     -- what is copied there, and what is put there
-    pub apart_written : {r : Written} {b1 : List ℕ} → (r ≡ room_answer b text) × (b1 ≡ room_buffer b text) → (r ≡ answer) × (b1 ≡ buffer)
+    pub apart_written : {r : (Result ℕ Refusal)} {b1 : List ℕ} → (r ≡ room_answer b text) × (b1 ≡ room_buffer b text) → (r ≡ answer) × (b1 ≡ buffer)
     apart_written p = (p.0 ∙ room_left.0, p.1 ∙ room_left.1)
 
-    pub put_written : {b1 : List ℕ} {n : ℕ} → length text ≤ length b → Put b 0 text b1 n → (Line n ≡ answer) × (b1 ≡ buffer)
+    pub put_written : {b1 : List ℕ} {n : ℕ} → length text ≤ length b → Put b 0 text b1 n → (Ok n ≡ answer) × (b1 ≡ buffer)
     put_written l p =
         let q = room_enough b text l in
-        (ap Line (p.place ∙ zero-add (length text)) ∙ q.0 ∙ room_left.0, p.bytes ∙ put_front b text l ∙ q.1 ∙ room_left.1)
+        (ap Ok (p.place ∙ zero-add (length text)) ∙ q.0 ∙ room_left.0, p.bytes ∙ put_front b text l ∙ q.1 ∙ room_left.1)

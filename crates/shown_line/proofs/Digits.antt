@@ -6,7 +6,7 @@ use mathlib.Core.List.{List, [], ◌∷◌, ◌++◌, append_assoc}
 use mathlib.Core.WellFounded.{Acc, Acc-prop, recursion}
 use Prim.Native.Nat.{ℕ, zero, suc, ◌+◌, ◌*◌, ◌/◌, ◌%◌, ◌^◌, ◌≤◌, ◌<◌}
 use native.Mathlib.Decide.{dec_lt}
-use native.Mathlib.Nat.{pow-suc, zero-add}
+use native.Mathlib.Nat.{one-le-pow, pow-suc, zero-add}
 use native.Mathlib.Omega.{arith}
 use borrow.Author.Tests.{le-leb}
 use lib.IntN.{ℤ, pos, negsuc, nat_abs}
@@ -117,6 +117,14 @@ at_most_by k n h f (no g) =
 pub digits_at_most : (k n : ℕ) → n < 10 ^ suc k → length (digits n) ≤ suc k
 digits_at_most zero n h = omega (arith, ap length (digits_small n h))
 digits_at_most (suc k) n h = at_most_by k n h (digits_at_most k) (dec_lt n 10)
+
+-- and one of at least 10 ^ k has more than k
+pub digits_at_least : (k n : ℕ) → 10 ^ k ≤ n → suc k ≤ length (digits n)
+digits_at_least zero n h = digits_some n
+digits_at_least (suc k) n h =
+    let l : 10 ≤ n = omega (arith, pow-suc 10 k, one-le-pow k 10 (omega arith)) in
+    let b : 10 ^ k ≤ n / 10 = omega (arith, pow-suc 10 k) in
+    omega (arith, ap length (digits_large n l), length-append (digits (n / 10)) ((0x30 + n % 10) ∷ []), digits_at_least k (n / 10) b)
 
 -- ---- three digits at a time
 

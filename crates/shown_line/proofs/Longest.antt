@@ -13,8 +13,8 @@ use Rattle.integers.proofs.Ranges.{within_true, in_reading_true}
 use Rattle.gaps.specs.declared.Gap.{Gap}
 use Rattle.gaps.specs.declared.Gap.TheVariants.{Missed, OffStep}
 use Rattle.motion.specs.declared.Total.{Total}
-use Rattle.motion.specs.declared.GroupTotals.{GroupTotals}
-use Rattle.motion.specs.declared.Totals.{Totals}
+use Rattle.motion.specs.Totals.{GroupTotals}
+use Rattle.motion.specs.Totals.{Totals}
 use Rattle.shown_line.specs.Decimal.{digits, decimal}
 use Rattle.shown_line.specs.Putting.{behind, heading_text}
 use Rattle.shown_line.specs.ShownLine.{shown_if, missed_field, axis_fields, total_field, total_fields, group_fields, groups_fields, shown_text, row_fits, readings_fit, total_within, group_within, totals_within, longest_line}

@@ -13,8 +13,8 @@ use Rattle.setup_line.specs.SetupLine.{fields_of}
 use Rattle.gaps.specs.declared.Gap.{Gap}
 use Rattle.gaps.specs.declared.Gap.TheVariants.{Missed, OffStep}
 use Rattle.motion.specs.declared.Total.{Total}
-use Rattle.motion.specs.declared.GroupTotals.{GroupTotals}
-use Rattle.motion.specs.declared.Totals.{Totals}
+use Rattle.motion.specs.Totals.{GroupTotals}
+use Rattle.motion.specs.Totals.{Totals}
 use Rattle.shown_line.specs.Decimal.{digits, decimal}
 use Rattle.shown_line.specs.ShownLine.{shown_if, missed_field, total_field, group_fields, groups_fields, shown_fields, parted}
 use Rattle.shown_line.specs.declared.Shown.{Shown}

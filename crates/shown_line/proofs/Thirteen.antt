@@ -11,7 +11,7 @@ use Rattle.integers.specs.Ranges.{in_reading}
 use Rattle.integers.proofs.Booleans.{three_split, three_true}
 use Rattle.integers.proofs.Ranges.{within_true, le_within}
 use Rattle.motion.specs.Totals.{one_of, total_at}
-use Rattle.motion.specs.declared.Totals.{Totals}
+use Rattle.motion.specs.Totals.{Totals}
 use Rattle.shown_line.specs.ShownLine.{row_fits, readings_fit, total_within, group_within, totals_within, outside}
 use Rattle.shown_line.specs.PassedLine.{PassesThirteen}
 use Rattle.shown_line.proofs.Answers.{inside}

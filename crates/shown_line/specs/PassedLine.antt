@@ -2,7 +2,7 @@
 use Rattle.std.specs.Prelude.{ℕ, ◌^◌, ◌≤◌, ◌<◌, true, List, [], ◌≡◌, ℤ, pos, nat_abs, get_or}
 use Rattle.integers.specs.Ranges.{in_reading}
 use Rattle.motion.specs.Totals.{total_at}
-use Rattle.motion.specs.declared.Totals.{Totals}
+use Rattle.motion.specs.Totals.{Totals}
 
 pub record PassesThirteen (ordinal : ℕ) (readings : List (List ℤ)) (totals : Totals) : Type 0 where
   -- no reading is outside 24 bits

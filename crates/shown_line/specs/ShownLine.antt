@@ -1,20 +1,19 @@
 -- 01, The text line, by which groups and totals are shown; and 'What is turned down': 13 and 14.
-use Rattle.std.specs.Prelude.{ℕ, Bool, false, not, ◌&&◌, ◌||◌, cond, List, [], ◌∷◌, ◌++◌, eqb, ltb, ℤ, pos, length, get_or}
+use Rattle.std.specs.Prelude.{ℕ, Bool, false, not, ◌&&◌, ◌||◌, cond, List, [], ◌∷◌, ◌++◌, eqb, ltb, ℤ, pos, length, get_or, Result, Ok, Err}
 use Rattle.std.proofs.Math.Option.{Option, none, some}
 use Rattle.integers.specs.Ranges.{in_reading, within}
 use Rattle.setup.specs.Setup.{Rule, rule, first_of, buffer_by}
-use Rattle.setup.specs.declared.Ruling as ruling
-use Rattle.setup.specs.declared.Ruling.{Ruling}
 use Rattle.gaps.specs.declared.Gap.{Gap}
 use Rattle.gaps.specs.declared.Gap.TheVariants.{Missed, OffStep}
 use Rattle.motion.specs.Totals.{greatest_total}
 use Rattle.motion.specs.declared.Total.{Total}
-use Rattle.motion.specs.declared.GroupTotals.{GroupTotals}
-use Rattle.motion.specs.declared.Totals.{Totals}
+use Rattle.motion.specs.Totals.{GroupTotals}
+use Rattle.motion.specs.Totals.{Totals}
 use Rattle.shown_line.specs.Decimal.{digits, decimal}
 use Rattle.shown_line.specs.declared.Shown.{Shown}
-use Rattle.shown_line.specs.declared.Written.{Written}
-use Rattle.shown_line.specs.declared.Written.TheVariants.{Line, Refused}
+use Rattle.refusals.specs.Refusals.{number_of, Ruling, unless_refused}
+use Rattle.refusals.specs.declared.Refusal.{Refusal}
+use Rattle.refusals.specs.declared.Refusal.TheVariants.{LineOutside, LineRoom}
 
 -- ---- the fields
 
@@ -98,33 +97,32 @@ outside ordinal readings totals = not (readings_fit readings) || not (totals_wit
 
 -- 14: a buffer of `room` bytes is shorter than the line
 abbrev pub room_rules : List ℕ → ℕ → List Rule
-room_rules text room = rule 14 (ltb room (length text)) ∷ []
+room_rules text room = rule LineRoom (ltb room (length text)) ∷ []
 
 -- the rules for a line with this text, whatever shows it
 unfoldable pub shown_rules : ℕ → List (List ℤ) → Totals → List ℕ → ℕ → List Rule
-shown_rules ordinal readings totals text room = rule 13 (outside ordinal readings totals) ∷ room_rules text room
+shown_rules ordinal readings totals text room = rule LineOutside (outside ordinal readings totals) ∷ room_rules text room
 
 -- ---- the answer and the buffer
 
--- the answer: the number of the rule that refuses the line, or how many bytes it has
-abbrev pub written_by : Ruling → List ℕ → Written
-written_by ruling.TheVariants.Accepted text = Line (length text)
-written_by (ruling.TheVariants.Refused number) text = Refused number
+-- the answer: what refuses the line, or how many bytes it has
+abbrev pub written_by : Ruling → List ℕ → Result ℕ Refusal
+written_by ruling text = unless_refused ruling (length text)
 
 -- what each case of it stands for: the number that refused the line, and how many bytes were written
-abbrev pub written_number : Written → Option ℕ
-written_number (Line n) = none
-written_number (Refused number) = some number
+abbrev pub written_number : Result ℕ Refusal → Option ℕ
+written_number (Ok n) = none
+written_number (Err e) = some (number_of e)
 
-abbrev pub written_bytes : Written → ℕ
-written_bytes (Line n) = n
-written_bytes (Refused number) = 0
+abbrev pub written_bytes : Result ℕ Refusal → ℕ
+written_bytes (Ok n) = n
+written_bytes (Err e) = 0
 
 module _ (b : List ℕ) (shown : Shown) (ordinal counter latency : ℕ) (gap : Gap) (readings : List (List ℤ)) (statuses : List ℕ) (totals : Totals) where
   unfoldable pub shown_ruling : Ruling
   shown_ruling = first_of (shown_rules ordinal readings totals (shown_text shown ordinal counter latency gap readings statuses totals) (length b))
 
-  unfoldable pub shown_answer : Written
+  unfoldable pub shown_answer : Result ℕ Refusal
   shown_answer = written_by shown_ruling (shown_text shown ordinal counter latency gap readings statuses totals)
 
   unfoldable pub shown_buffer : List ℕ

@@ -1,12 +1,12 @@
 -- Laws of the special datagrams: 001's byte counts, which bytes begin one, and what is known of one.
-use Prim.Native.Nat.{ℕ, ◌+◌, ◌≤◌, ◌<◌}
+use Prim.Native.Nat.{ℕ, zero, suc, ◌+◌, ◌≤◌, ◌<◌}
 use native.Mathlib.Omega.{arith}
-use mathlib.Core.Bool.{Bool, true, false, ◌&&◌, ◌||◌, cond}
+use mathlib.Core.Bool.{Bool, true, false, not, ◌&&◌, ◌||◌, cond}
 use mathlib.Core.List.{List, [], ◌∷◌}
-use mathlib.Core.Logic.{◌⊎◌, inl, inr}
+use mathlib.Core.Logic.{◌⊎◌, inl, inr, ⊎_elim}
 use mathlib.Core.Option.{Option, none, some}
 use mathlib.Core.Path.{◌≡◌, refl, sym, ap, subst, ◌∙◌}
-use lib.Dec.{eqb}
+use lib.Dec.{eqb, eqb-suc-zero}
 use lib.ListN.{length, get_or, take, drop, length-drop}
 use borrow.Author.Tests.{eqb-true, eq-eqb, ne_eqb}
 use Rattle.integers.specs.Bytes.{big_endian}
@@ -14,14 +14,14 @@ use Rattle.integers.proofs.Booleans.{and_split}
 use Rattle.crc.specs.Check.{stim300, check_of, check32}
 use Rattle.setup.specs.Layout.{sum, check_bytes, row_at}
 use Rattle.setup.specs.declared.Row.{Row}
-use Rattle.setup.specs.declared.Listing.TheVariants.{Listed, Unlisted}
 use Rattle.wire.proofs.FieldPlaces.{window_within, four_bytes}
 use Rattle.acceptance.specs.Acceptable.{same}
-use Rattle.acceptance.proofs.Acceptance.{two_left, last_true}
 use Rattle.acceptance.proofs.Completed.{same_self, same_equal}
 use Rattle.special.specs.Special.{fields_of, Entry, table, before_check, ending_of, length_in, entry_in, entry_at}
-use Rattle.special.specs.Special.{length_by, special_length, kind_by, kind_at, is_of, is_by, is_special, is_normal}
+use Rattle.special.specs.Special.{length_by, special_length, length_found, kind_by, kind_at, is_of, is_by, is_special, is_normal}
 use Rattle.special.specs.declared.Kind.TheVariants.{Normal}
+use Rattle.std.specs.Option.{option_eq}
+use Rattle.std.specs.Prelude.{None, Some}
 
 -- ---- the table
 
@@ -74,7 +74,7 @@ all_special : Each (λ e. is_normal e.kind ≡ false) table
 all_special = (refl, (refl, (refl, (refl, (refl, (refl, (refl, (refl, (refl, (refl, tt))))))))))
 
 -- no identifier is in both tables
-all_unlisted : Each (λ e. row_at e.identifier ≡ Unlisted) table
+all_unlisted : Each (λ e. row_at e.identifier ≡ None) table
 unfolding row_at
 all_unlisted = (refl, (refl, (refl, (refl, (refl, (refl, (refl, (refl, (refl, (refl, tt))))))))))
 
@@ -124,6 +124,27 @@ begins i = by (entry_at i) refl
           special = (found (λ e. is_normal e.kind ≡ false) all_special i q).0;
         }
 
+-- the length as the code answers it: none just where there is none, and else the same
+pub found_none : (i : ℕ) → special_length i ≡ 0 → length_found i ≡ None
+unfolding length_found
+found_none i e = rw e
+
+pub none_length : (i : ℕ) → length_found i ≡ None → special_length i ≡ 0
+unfolding length_found
+none_length i = by (special_length i)
+  where
+    by : (n : ℕ) → cond (eqb n 0) None (Some n) ≡ None → n ≡ 0
+    by zero e = refl
+    by (suc n) e = let f = rw (eqb-suc-zero n) at e in let z : ◌≡◌ {A = ℕ} 0 1 = cc in absurd (omega arith)
+
+pub found_length : (i n : ℕ) → length_found i ≡ Some n → special_length i ≡ n
+unfolding length_found
+found_length i n = by (special_length i)
+  where
+    by : (m : ℕ) → cond (eqb m 0) None (Some m) ≡ Some n → m ≡ n
+    by zero e = let z : ◌≡◌ {A = ℕ} 0 1 = cc in absurd (omega arith)
+    by (suc m) e = let f = rw (eqb-suc-zero m) at e in cc
+
 pub special_range : (i : ℕ) → 1 ≤ special_length i → (20 ≤ special_length i) × (special_length i ≤ 42)
 special_range i h = let b = begins i h in omega (arith, b.long, b.bounds)
 
@@ -143,19 +164,19 @@ kind_length i = by (entry_at i) refl
     by (some e) q h = let b = (found Bounded bounded i q).0 in absurd (omega (arith, h, b))
 
 -- an identifier of a Normal Mode datagram begins no special one
-pub unlisted_special : (i : ℕ) {r : Row} → row_at i ≡ Listed r → special_length i ≡ 0
+pub unlisted_special : (i : ℕ) {r : Row} → row_at i ≡ Some r → special_length i ≡ 0
 unfolding special_length
 unlisted_special i {r} l = by (entry_at i) refl
   where
     by : (o : Option Entry) → entry_at i ≡ o → length_by o ≡ 0
     by none q = refl
     by (some e) q =
-        let k = found (λ e. row_at e.identifier ≡ Unlisted) all_unlisted i q in
-        let u : Listed r ≡ Unlisted = sym l ∙ ap row_at k.1 ∙ k.0 in
+        let k = found (λ e. row_at e.identifier ≡ None) all_unlisted i q in
+        let u : Some r ≡ None = sym l ∙ ap row_at k.1 ∙ k.0 in
         let z : ◌≡◌ {A = ℕ} 0 1 = cc in
         absurd (omega arith)
 
-pub unlisted_kind : (i : ℕ) {r : Row} → row_at i ≡ Listed r → kind_at i ≡ Normal
+pub unlisted_kind : (i : ℕ) {r : Row} → row_at i ≡ Some r → kind_at i ≡ Normal
 unlisted_kind i l = kind_length i (unlisted_special i l)
 
 -- ---- what a special datagram is: one of the entry of its first byte, as long as that says, with its ending and its check
@@ -249,6 +270,51 @@ ending_tested true (x ∷ l) h = refl
 ending_tested false [] h = refl
 ending_tested false (x ∷ l) h = absurd (omega (arith, h))
 
+-- what the test of the length tells
+passed_test : (t : Bool) → false ≡ not t → t ≡ true
+passed_test true e = refl
+passed_test false e = e
+
+failed_test : (t : Bool) → true ≡ not t → t ≡ false
+failed_test true e = e
+failed_test false e = refl
+
+pub length_told : (i n : ℕ) → false ≡ not (option_eq eqb (length_found i) (Some n)) → n ≡ special_length i
+unfolding length_found
+length_told i n e = by (special_length i) (passed_test (option_eq eqb (length_found i) (Some n)) e)
+  where
+    by : (m : ℕ) → option_eq eqb (cond (eqb m 0) None (Some m)) (Some n) ≡ true → n ≡ m
+    by zero e = let z : ◌≡◌ {A = ℕ} 0 1 = cc in absurd (omega arith)
+    by (suc m) e = sym (eqb-true (suc m) n (rw (eqb-suc-zero m) at e))
+
+pub length_other : (i n : ℕ) → 1 ≤ n → true ≡ not (option_eq eqb (length_found i) (Some n)) → n ≡ special_length i → ⊥
+unfolding length_found
+length_other i n h e = by (special_length i) (failed_test (option_eq eqb (length_found i) (Some n)) e)
+  where
+    by : (m : ℕ) → option_eq eqb (cond (eqb m 0) None (Some m)) (Some n) ≡ false → n ≡ m → ⊥
+    by zero e q = omega arith
+    by (suc m) e q =
+        let f : eqb (suc m) n ≡ false = rw (eqb-suc-zero m) at e in
+        let g : eqb (suc m) n ≡ true = eq-eqb (suc m) n (sym q) in
+        let z : ◌≡◌ {A = ℕ} 0 1 = cc in
+        omega arith
+
+-- the check lies within
+pub place_within : (i n : ℕ) → 1 ≤ n → n ≡ special_length i → check_place i + 4 ≤ n
+place_within i n h e = ⊎_elim (λ l. omega arith) (λ l. omega arith) (place_end i (omega arith))
+
+-- three bytes or more are no ending
+pub no_ending : (l : List ℕ) → 3 ≤ length l → (same l [] || same l (0x0D ∷ 0x0A ∷ [])) ≡ false
+no_ending [] h = absurd (omega arith)
+no_ending (x ∷ []) h = absurd (omega arith)
+no_ending (x ∷ y ∷ []) h = absurd (omega arith)
+no_ending (x ∷ y ∷ z ∷ l) h = and_false_twice (eqb x 0x0D) (eqb y 0x0A)
+  where
+    and_false_twice : (a b : Bool) → (a && (b && false)) ≡ false
+    and_false_twice true true = refl
+    and_false_twice true false = refl
+    and_false_twice false b = refl
+
 pub tested : (d : List ℕ) → 1 ≤ length d → length d ≡ special_length (get_or d 0 0)
     → let n = check_place (get_or d 0 0) in
     is_special d
@@ -284,12 +350,7 @@ none_special d h = by (is_special d) refl
     by true q = absurd (omega (arith, h, special_some d q))
     by false q = q
 
--- the ending and the check byte by byte
-pub ending_bytes_lem : (s : List ℕ) (n : ℕ) → length s ≡ n + 2
-    → (same (drop n s) [] || same (drop n s) (0x0D ∷ 0x0A ∷ [])) ≡ (eqb (get_or s n 0) 0x0D && eqb (get_or s (n + 1) 0) 0x0A)
-ending_bytes_lem s n h =
-    ap (λ l. same l [] || same l (0x0D ∷ 0x0A ∷ [])) (two_left s n h) ∙ last_true (eqb (get_or s n 0) 0x0D) (eqb (get_or s (n + 1) 0) 0x0A)
-
+-- the check byte by byte
 pub check_bytes_lem : (s : List ℕ) (n : ℕ) → n + 4 ≤ length s
     → eqb (big_endian (take (check_bytes stim300) (drop n s))) (check_of stim300 (take n s))
     ≡ eqb (big_endian (get_or s n 0 ∷ get_or s (n + 1) 0 ∷ get_or s (n + 2) 0 ∷ get_or s (n + 3) 0 ∷ [])) (check32 (take n s))

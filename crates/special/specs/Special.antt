@@ -1,5 +1,6 @@
 -- 02, 2.7: part number, serial number, configuration, bias trim and extended error datagrams, by the identifiers and lengths of 001, 5.5.1 to 5.5.5.
-use Rattle.std.specs.Prelude.{ℕ, ◌+◌, max, Bool, true, false, ◌&&◌, cond, List, [], ◌∷◌, eqb, length, take, drop, get_or}
+use Rattle.std.specs.Prelude.{ℕ, ◌+◌, max, Bool, true, false, ◌&&◌, cond, List, [], ◌∷◌, eqb, length, take, drop, get_or, Some, None}
+use Rattle.std.specs.declared.option.Option as found
 use Rattle.std.proofs.Math.Option.{Option, none, some}
 use Rattle.integers.specs.Bytes.{big_endian}
 use Rattle.crc.specs.Check.{stim300, check_of}
@@ -81,6 +82,10 @@ length_by (some e) = length_in e
 
 unfoldable pub special_length : ℕ → ℕ
 special_length i = length_by (entry_at i)
+
+-- the same as the code answers it: none for a byte that begins none
+unfoldable pub length_found : ℕ → found.Option ℕ
+length_found i = cond (eqb (special_length i) 0) None (Some (special_length i))
 
 -- its kind; a byte that begins no special datagram can begin a Normal Mode one only
 abbrev pub kind_by : Option Entry → Kind

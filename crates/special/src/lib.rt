@@ -1,11 +1,11 @@
 #![tactic(auto)]
 // The special datagrams: which kind begins with a byte, how long it is, whether bytes are one (02, 2.7; 001, 5.5.1 to 5.5.5).
-ghost use Rattle.std.specs.Prelude.{◌≡◌, ◌||◌, ◌⊎◌, [], ◌∷◌, ◌+◌, ◌≤◌, eqb, length, take, drop};
+ghost use Rattle.std.specs.Prelude.{◌≡◌, ◌||◌, [], ◌∷◌, ◌+◌, ◌≤◌, eqb, length, take, drop};
 ghost use Rattle.integers.specs.Bytes.{big_endian};
 ghost use Rattle.crc.specs.Check.{stim300, check_of};
 ghost use Rattle.setup.specs.Layout.{sum, check_bytes};
 ghost use Rattle.acceptance.specs.Acceptable.{same};
-ghost use Rattle.special.specs.Special.{fields_of, special_length, kind_at, is_special};
+ghost use Rattle.special.specs.Special.{fields_of, length_found, kind_at, is_special};
 
 // Which kind a datagram is.
 #[derive(Clone, Copy)]
@@ -18,20 +18,20 @@ pub enum Kind {
     ExtendedError,
 }
 
-// The length of the special datagram that begins with a byte, 0 for a byte that begins none (001, 5.5.1 to 5.5.5).
-pub fn length_of(byte: u8) -> usize
-    ensures { result ≡ special_length byte }
+// The length of the special datagram that begins with a byte, if it begins one (001, 5.5.1 to 5.5.5).
+pub fn length_of(byte: u8) -> Option<usize>
+    ensures { result ≡ length_found byte }
 {
     match byte {
-        0xB1 | 0xB5 => 20,
-        0xB3 | 0xB7 => 22,
-        0xBC => 26,
-        0xBD => 28,
-        0xD1 => 40,
-        0xD2 => 42,
-        0xBE => 21,
-        0xBF => 23,
-        _ => 0,
+        0xB1 | 0xB5 => Some(20),
+        0xB3 | 0xB7 => Some(22),
+        0xBC => Some(26),
+        0xBD => Some(28),
+        0xD1 => Some(40),
+        0xD2 => Some(42),
+        0xBE => Some(21),
+        0xBF => Some(23),
+        _ => None,
     }
 }
 
@@ -65,14 +65,10 @@ fn check_place(kind: Kind) -> usize
 
 // The bytes from `end` on, behind the check, are 0x0D 0x0A or none; which of the two, the length has said already.
 fn ending_right(end: usize, s: &[u8]) -> bool
-    requires { (length s.now ≡ end) ⊎ (length s.now ≡ end + 2) }
+    requires { end ≤ length s.now }
     ensures { result ≡ (same (drop end s.now) [] || same (drop end s.now) (0x0D ∷ 0x0A ∷ [])) }
 {
-    if s.len() == end {
-        true
-    } else {
-        (s[end] == 0x0D) & (s[end + 1] == 0x0A)
-    }
+    matches!(&s[end..], [] | [0x0D, 0x0A])
 }
 
 // The four bytes at `place` are the check of those before them (01, The check).
@@ -88,16 +84,12 @@ fn check_right(place: usize, s: &[u8]) -> bool
 pub fn is_special(s: &[u8]) -> bool
     ensures { result ≡ is_special s.now }
 {
-    if s.len() == 0 {
+    let Some(&first) = s.first() else {
         return false;
-    }
-    let first = s[0];
-    if s.len() != length_of(first) {
+    };
+    if length_of(first) != Some(s.len()) {
         return false;
     }
     let place = check_place(kind_of(first));
-    if !ending_right(place + 4, s) {
-        return false;
-    }
-    check_right(place, s)
+    ending_right(place + 4, s) && check_right(place, s)
 }

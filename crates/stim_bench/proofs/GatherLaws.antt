@@ -5,7 +5,7 @@ use mathlib.Core.List.{List, ◌++◌}
 use native.Mathlib.Omega.{arith}
 use borrow.Rule.Slice.PartMut.{mid_of, put_mid, mid_len}
 use lib.ListN.{length, take, drop, length-append, length-drop}
-use lib.Seq.{take_at, sets, length-sets}
+use lib.Seq.{take_at, drop_at, drop-drop, sets, length-sets}
 use Rattle.integers.proofs.Buffers.{to_end, sets_append, put_front, put_part}
 use Rattle.session.specs.declared.Session.{Session}
 use Rattle.whole_piece.specs.Lines.{enough, lines_in}
@@ -14,6 +14,16 @@ use Rattle.stim_bench.specs.Bench.{Feedable, fed_with, part_lines, with_text, Is
 use Rattle.stim_bench.specs.declared.PartFed.{PartFed}
 use Rattle.stim_bench.specs.declared.Gathered.{Gathered}
 use Rattle.stim_bench.proofs.PartLaws.{Front, front_none, front_more, front_lines, part_to}
+
+-- a part at the front of what is left, and what is left behind it
+pub part_cut : (p part rest : List ℕ) (at : ℕ) → drop at p ≡ part ++ rest → part ≡ take (at + length part - at) (drop at p)
+part_cut p part rest at e =
+    let k : length part ≡ at + length part - at = omega arith in
+    sym (take_at part rest (at + length part - at) k) ∙ ap (take (at + length part - at)) (sym e)
+
+pub rest_cut : (p part rest : List ℕ) (at : ℕ) → drop at p ≡ part ++ rest → rest ≡ drop (at + length part) p
+rest_cut p part rest at e =
+    sym (drop_at part rest (length part) refl) ∙ ap (drop (length part)) (sym e) ∙ drop-drop (length part) at p
 
 module _ (s : Session) (p b : List ℕ) where
   -- the first `at` bytes of p were fed; their lines are n bytes at the front of the buffer, which was b and is b'

@@ -7,19 +7,20 @@ use borrow.Author.Tests.{le-ltb, lt-ltb}
 use lib.ListN.{length, take, drop}
 use lib.Seq.{length-take-le, take-add}
 use Rattle.integers.proofs.Buffers.{to_end}
-use Rattle.setup.specs.declared.Ruling.TheVariants.{Refused}
 use Rattle.search.specs.Search.{limits_of}
 use Rattle.session.specs.declared.Session.{Session}
 use Rattle.admission.specs.Admission.{piece_ruling}
 use Rattle.admission.proofs.Soundness.{sound_facts}
 use Rattle.admission.proofs.PieceRulings.{admits}
 use Rattle.whole_piece.specs.Lines.{enough, lines_in, buffer_by, batch_of, batch_buffer}
-use Rattle.whole_piece.specs.declared.Received.TheVariants.{Lines, Refused as Down}
 use Rattle.whole_piece.specs.declared.Batch.{Batch}
 use Rattle.whole_piece.proofs.LongestLines.{lines_enough}
 use Rattle.whole_piece.proofs.Batches.{fitting_lines}
 use Rattle.whole_piece.proofs.WholePieces.{session_joined, lines_joined, bytes_sound, session_empty}
 use Rattle.stim_bench.specs.Bench.{Feedable, HasLeft, fed_with, part_lines, with_text}
+use Rattle.std.specs.Prelude.{Ok, Err}
+use Rattle.refusals.specs.declared.Refusal.{Refusal}
+use Rattle.refusals.specs.declared.Refusal.TheVariants.{StreamTooLong}
 
 -- ---- the session behind bytes may be fed as many bytes as are left
 
@@ -33,7 +34,7 @@ module _ (s : Session) (p : List ℕ) where
   left_behind k H e = record { sound = bytes_sound s p H.sound (omega (arith, H.room)); room = omega (arith, H.room) }
 
 -- where none is left, some more are refused by 12
-pub none_left : (s : Session) (n : ℕ) → HasLeft s 0 → 0 < n → n ≤ (limits_of s.setup).piece → piece_ruling s n ≡ Refused 12
+pub none_left : (s : Session) (n : ℕ) → HasLeft s 0 → 0 < n → n ≤ (limits_of s.setup).piece → piece_ruling s n ≡ Err StreamTooLong
 unfolding piece_ruling
 none_left s n H some few =
     let l = limits_of s.setup in
@@ -97,7 +98,7 @@ part_to p at k end e =
 -- ---- a part that no number refuses
 
 module _ (s : Session) (p b : List ℕ) (F : Feedable s (length p)) (few : length p ≤ (limits_of s.setup).piece) (room : enough ≤ length b) where
-  answered : batch_of s p (length b) ≡ record { answer = Lines (length (lines_in s p)); session = fed_with s p }
+  answered : batch_of s p (length b) ≡ record { answer = Ok (length (lines_in s p)); session = fed_with s p }
   unfolding fed_with
   answered =
       let e = admits s (length p) (record { sound = F.sound; piece = few; session = F.room }) in
@@ -110,14 +111,14 @@ module _ (s : Session) (p b : List ℕ) (F : Feedable s (length p)) (few : lengt
 
   module _ {r : Batch} (e : r ≡ batch_of s p (length b)) where
     -- what comes back
-    pub part_fed : {n : ℕ} → r.answer ≡ Lines n → record { session = r.session; used = n } ≡ part_lines s p
+    pub part_fed : {n : ℕ} → r.answer ≡ Ok n → record { session = r.session; used = n } ≡ part_lines s p
     part_fed {n} a =
         let f = e ∙ answered in
-        let t : Lines n ≡ Lines (length (lines_in s p)) = sym a ∙ ap (λ (x : Batch). x.answer) f in
+        let t : Ok n ≡ Ok (length (lines_in s p)) = sym a ∙ ap (λ (x : Batch). x.answer) f in
         let m : n ≡ length (lines_in s p) = cc in
         λ i. record { session = (f i).session; used = m i }
 
-    pub part_accepted : {n : ℕ} → r.answer ≡ Down n → ⊥
-    part_accepted {n} a =
-        let t : Down n ≡ Lines (length (lines_in s p)) = sym a ∙ ap (λ (x : Batch). x.answer) (e ∙ answered) in
+    pub part_accepted : {refusal : Refusal} → r.answer ≡ Err refusal → ⊥
+    part_accepted {refusal} a =
+        let t : Err refusal ≡ Ok (length (lines_in s p)) = sym a ∙ ap (λ (x : Batch). x.answer) (e ∙ answered) in
         let z : ◌≡◌ {A = ℕ} 0 1 = cc in omega arith

@@ -1,6 +1,5 @@
 -- A helper of proofs, no rule of 01: what the contracts of the bench program cite.
-use Rattle.std.specs.Prelude.{ℕ, ◌+◌, ◌≤◌, ◌<◌, min, ◌≡◌, true, List, ◌++◌, length, take, drop}
-use Rattle.setup.specs.declared.Ruling.TheVariants.{Accepted}
+use Rattle.std.specs.Prelude.{ℕ, ◌+◌, ◌≤◌, ◌<◌, min, ◌≡◌, true, List, ◌++◌, length, take, drop, Ok}
 use Rattle.setup_line.specs.SetupLine.{line_read, line_end}
 use Rattle.search.specs.Search.{limits_of}
 use Rattle.session.specs.Session.{opening}
@@ -8,11 +7,8 @@ use Rattle.session.specs.declared.Session.{Session}
 use Rattle.admission.specs.Admission.{is_sound}
 use Rattle.feeding.specs.Feed.{session_of}
 use Rattle.whole_piece.specs.Lines.{lines_in, behind}
-use Rattle.stim_bench.specs.declared.Got.{Got}
-use Rattle.stim_bench.specs.declared.Got.TheVariants.{Bytes, End, Failed}
 use Rattle.stim_bench.specs.declared.PartFed.{PartFed}
 use Rattle.stim_bench.specs.declared.Gathered.{Gathered}
-use Rattle.stim_bench.specs.declared.BytesFed.{BytesFed}
 
 -- the first line, without its 0x0A
 abbrev pub first_line : List ℕ → List ℕ
@@ -20,15 +16,9 @@ first_line l = take (line_end l) l
 
 -- the first line of the bytes l is an accepted setup line, s is the session that it opens, and the stream begins behind its 0x0A
 pub record Opens (l : List ℕ) (s : Session) (from : ℕ) : Type 0 where
-  pub accepted : (line_read (first_line l)).answer ≡ Accepted
+  pub accepted : (line_read (first_line l)).answer ≡ Ok tt
   pub session : s ≡ (opening (line_read (first_line l)).setup).session
   pub place : from ≡ min (line_end l + 1) (length l)
-
--- bytes that a read gave are one or more, and lie in the buffer
-abbrev pub GotWithin : Got → ℕ → Type 0
-GotWithin (Bytes n) size = (0 < n) × (n ≤ size)
-GotWithin End size = 0 ≤ size
-GotWithin Failed size = 0 ≤ size
 
 -- feeding doesn't turn the session down by 10, and n more bytes don't pass its limit
 pub record Feedable (s : Session) (n : ℕ) : Type 0 where
@@ -59,10 +49,3 @@ pub record IsGathered (s : Session) (p b b' : List ℕ) (r : Gathered) : Type 0 
   pub session : r.session ≡ fed_with s (take r.taken p)
   pub used : r.used ≡ length (lines_in s (take r.taken p))
   pub text : b' ≡ with_text (lines_in s (take r.taken p)) b
-
--- bytes were fed: the session behind the first of them, and behind all where standard output took the lines
-pub record AreFed (s : Session) (p : List ℕ) (r : BytesFed) : Type 0 where
-  pub taken : ℕ
-  pub within : taken ≤ length p
-  pub session : r.session ≡ fed_with s (take taken p)
-  pub whole : r.is_open ≡ true → r.session ≡ fed_with s p

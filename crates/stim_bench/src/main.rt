@@ -1,18 +1,17 @@
 #![tactic(auto)]
 // The bench program (01, The text line): standard input is a setup line and then the stream, standard output a text line for each datagram.
-ghost use Rattle.std.specs.Prelude.{◌≡◌, ◌+◌, ◌-◌, ◌≤◌, ◌<◌, min, length, take};
-ghost use Rattle.setup.specs.declared.Ruling.TheVariants.{Refused};
+ghost use Rattle.std.specs.Prelude.{◌≡◌, ◌+◌, ◌-◌, ◌≤◌, ◌<◌, length, take, IfOk};
 ghost use Rattle.setup_line.specs.SetupLine.{line_read};
 ghost use Rattle.search.specs.Search.{limits_of};
 ghost use Rattle.admission.specs.Admission.{piece_ruling};
 ghost use Rattle.whole_piece.specs.Lines.{lines_in, enough};
-ghost use Rattle.stim_bench.specs.Bench.{first_line, Opens, GotWithin, Feedable, HasLeft, part_lines, with_text, IsGathered, AreFed};
+ghost use Rattle.stim_bench.specs.Bench.{first_line, Opens, Feedable, HasLeft, fed_with, part_lines, with_text, IsGathered};
 
+use console::Stop;
+use refusals::Refusal;
 use session::Session;
-use setup::{Ruling, Setup};
-use std::io;
-use std::io::{ErrorKind, Read, Write};
-use whole_piece::Received;
+use setup::Setup;
+use std::io::{Read, Write};
 
 // The most bytes of a piece and of a session, 2^34 (01, What is turned down, 11 and 12).
 const PIECE_LIMIT: usize = 4096;
@@ -22,20 +21,11 @@ const SESSION_LIMIT: u64 = 17179869184;
 // So many bytes have room for the lines of any piece.
 const ENOUGH: usize = 72000;
 
-// What one read gave.
-#[derive(Clone, Copy)]
-enum Got {
-    Bytes(usize),
-    End,
-    Failed,
-}
+// The most bytes of one read.
+const READ: usize = 65536;
 
-// The first bytes of the input, as many as were needed to know its first line.
-#[derive(Clone, Copy)]
-struct FirstBytes {
-    filled: usize,
-    last: Got,
-}
+// Room for the lines of several parts.
+const ROOM: usize = 131072;
 
 // What a part that was fed leaves: the session, and how many bytes of lines stand at the front of the buffer.
 #[derive(Clone, Copy)]
@@ -52,82 +42,24 @@ struct Gathered {
     used: usize,
 }
 
-// What bytes that were fed leave: the session, and whether standard output took their lines.
-#[derive(Clone, Copy)]
-struct BytesFed {
-    session: Session,
-    is_open: bool,
+// Prints what refuses something: `refused ` and its number.
+fn print_refusal<W: Write>(writer: &mut W, refusal: Refusal) -> Result<(), Stop> {
+    writeln!(writer, "{refusal}").map_err(Stop::Writing)
 }
 
-// The lesser of two numbers.
-fn least(a: usize, b: usize) -> usize
-    ensures { result ≡ min a b }
-{
-    if a < b { a } else { b }
-}
-
-// Where a part ends that begins at a place: as many bytes further on as it may have at most, or at the end.
-fn part_end(at: usize, length: usize, most: usize) -> usize
-    requires { at ≤ length }
-    ensures { result ≡ min (at + most) length }
-{
-    if length - at < most {
-        length
-    } else {
-        at + most
-    }
-}
-
-// Says on standard error why a read failed.
-fn tell_failed<E: Write>(errors: &mut E, error: io::Error) {
-    let _ = writeln!(errors, "standard input: {error}");
-}
-
-// One read of standard input.
-fn read_some<R: Read, E: Write>(reader: &mut R, errors: &mut E, buffer: &mut [u8]) -> Got
-    ensures { GotWithin result (length buffer.new) }
-{
-    match reader.read(buffer) {
-        Ok(0) => Got::End,
-        Ok(count) => Got::Bytes(count),
-        Err(error) => {
-            tell_failed(errors, error);
-            Got::Failed
-        }
-    }
-}
-
-// Says on standard error that a write failed or took nothing. Where nobody reads standard output any more the program ends without a word.
-fn tell_closed<E: Write>(errors: &mut E, error: io::Error) {
-    if error.kind() != ErrorKind::BrokenPipe {
-        let _ = errors.write_all(b"standard output takes nothing more\n");
-    }
-}
-
-fn print_refusal<W: Write, E: Write>(writer: &mut W, errors: &mut E, number: u8) {
-    if let Err(error) = writeln!(writer, "refused {number}") {
-        tell_closed(errors, error);
-    }
-}
-
-// Writes out the lines of bytes that a session is fed, and tells whether standard output took them. Only the contract speaks of session and bytes.
-fn write_lines<W: Write, E: Write>(
+// Writes out the lines of bytes that a session is fed. Only the contract speaks of session and bytes.
+fn write_lines<W: Write>(
     writer: &mut W,
-    errors: &mut E,
     session: Session,
     bytes: &[u8],
     lines: &[u8],
-) -> bool
+) -> Result<(), Stop>
     requires { lines.now ≡ lines_in session bytes.now }
 {
-    if let Err(error) = writer.write_all(lines) {
-        tell_closed(errors, error);
-        return false;
-    }
-    true
+    console::write_out(writer, lines)
 }
 
-// Feeds a part that no number refuses: its lines come to the front of the buffer.
+// Feeds a part that nothing refuses: its lines come to the front of the buffer.
 fn feed_part(session: Session, part: &[u8], output: &mut [u8]) -> PartFed
     requires { Feedable session (length part.now) × (length part.now ≤ (limits_of session.setup).piece) × (enough ≤ length output.old) }
     ensures answer { result ≡ part_lines session part.now }
@@ -137,11 +69,11 @@ fn feed_part(session: Session, part: &[u8], output: &mut [u8]) -> PartFed
     let answer = batch.answer;
     let next = batch.session;
     match answer {
-        Received::Lines(count) => PartFed {
+        Ok(count) => PartFed {
             session: next,
             used: count,
         },
-        Received::Refused(number) => PartFed {
+        Err(_) => PartFed {
             session: session,
             used: 0,
         },
@@ -156,12 +88,14 @@ fn gather(start: Session, bytes: &[u8], output: &mut [u8]) -> Gathered
     let mut session = start;
     let mut taken: usize = 0;
     let mut used: usize = 0;
-    while taken < bytes.len() && ENOUGH <= output.len() - used {
-        let end = part_end(taken, bytes.len(), PIECE_LIMIT);
-        let fed = feed_part(session, &bytes[taken..end], &mut output[used..]);
+    for part in bytes.chunks(PIECE_LIMIT) {
+        if output.len() - used < ENOUGH {
+            break;
+        }
+        let fed = feed_part(session, part, &mut output[used..]);
         session = fed.session;
         used += fed.used;
-        taken = end;
+        taken += part.len();
     }
     Gathered {
         session: session,
@@ -170,215 +104,141 @@ fn gather(start: Session, bytes: &[u8], output: &mut [u8]) -> Gathered
     }
 }
 
-// Feeds bytes and writes out their lines, as many at once as the buffer has room for.
-fn feed_bytes<W: Write, E: Write>(
+// Feeds bytes and writes out their lines, as many at once as the buffer has room for: the session behind them.
+fn feed_bytes<W: Write>(
     writer: &mut W,
-    errors: &mut E,
     start: Session,
     bytes: &[u8],
-    output: &mut [u8],
-) -> BytesFed
-    requires { Feedable start (length bytes.now) × (enough ≤ length output.old) }
-    ensures { AreFed start bytes.now result }
+    output: &mut [u8; ROOM],
+) -> Result<Session, Stop>
+    requires { Feedable start (length bytes.now) }
+    ensures { IfOk result (λ behind. behind ≡ fed_with start bytes.now) }
 {
+    // a `while`, since each turn goes as far as the buffer had room
     let mut session = start;
     let mut at: usize = 0;
     while at < bytes.len() {
-        let gathered = gather(session, &bytes[at..], output);
+        let gathered = gather(session, &bytes[at..], &mut output[..]);
         let end = at + gathered.taken;
         let used = gathered.used;
-        let is_open = write_lines(writer, errors, session, &bytes[at..end], &output[..used]);
+        write_lines(writer, session, &bytes[at..end], &output[..used])?;
         session = gathered.session;
-        if !is_open {
-            return BytesFed {
-                session: session,
-                is_open: false,
-            };
-        }
         at = end;
     }
-    BytesFed {
-        session: session,
-        is_open: true,
-    }
-}
-
-// How many of the bytes that came may be fed.
-fn fitting(count: usize, allowed: u64) -> usize
-    ensures { result ≡ min count allowed }
-{
-    if (count as u64) < allowed {
-        count
-    } else {
-        allowed as usize
-    }
+    Ok(session)
 }
 
 // Prints that a piece of so many bytes more is refused. Only the contract speaks of session and length.
-fn refuse_piece<W: Write, E: Write>(
+fn refuse_piece<W: Write>(
     writer: &mut W,
-    errors: &mut E,
     session: Session,
     length: usize,
-    number: u8,
-)
-    requires { piece_ruling session length ≡ Refused number }
+    refusal: Refusal,
+) -> Result<(), Stop>
+    requires { piece_ruling session length ≡ Err refusal }
 {
-    print_refusal(writer, errors, number);
+    print_refusal(writer, refusal)
 }
 
 // Feeds what each read gives, until the input ends or one byte more comes than a session takes.
-fn receive_rest<R: Read, W: Write, E: Write>(
+fn receive_rest<R: Read, W: Write>(
     reader: &mut R,
     writer: &mut W,
-    errors: &mut E,
     start: Session,
-    input: &mut [u8],
-    output: &mut [u8],
+    input: &mut [u8; READ],
+    output: &mut [u8; ROOM],
     allowed: u64,
-)
-    requires { HasLeft start allowed × (enough ≤ length output.old) }
+) -> Result<(), Stop>
+    requires { HasLeft start allowed }
 {
+    // a `loop`, which ends with the input or with the bytes that are left
     let mut session = start;
     let mut left = allowed;
     loop {
-        let got = read_some(reader, errors, input);
-        let Got::Bytes(count) = got else {
-            return;
-        };
-        let fed = fitting(count, left);
-        let behind = feed_bytes(writer, errors, session, &input[..fed], output);
-        session = behind.session;
-        if !behind.is_open {
-            return;
+        let count = console::read_some(reader, &mut input[..])?;
+        if count == 0 {
+            return Ok(());
         }
+        let fed = left.min(count as u64) as usize;
+        session = feed_bytes(writer, session, &input[..fed], output)?;
         if fed < count {
-            refuse_piece(writer, errors, session, 1, 12);
-            return;
+            return refuse_piece(writer, session, 1, Refusal::StreamTooLong);
         }
         left -= count as u64;
     }
 }
 
 // Receives the stream, whose first bytes lie in the input buffer already: a session's bytes, and one more is refused.
-fn receive<R: Read, W: Write, E: Write>(
+fn receive<R: Read, W: Write>(
     reader: &mut R,
     writer: &mut W,
-    errors: &mut E,
     start: Session,
-    input: &mut [u8],
-    output: &mut [u8],
+    input: &mut [u8; READ],
+    output: &mut [u8; ROOM],
     from: usize,
     filled: usize,
-)
-    requires from_le_filled { (from ≤ filled) × (filled ≤ length input.old) × (filled ≤ (limits_of start.setup).session) × (enough ≤ length output.old) }
+) -> Result<(), Stop>
+    requires from_le_filled { (from ≤ filled) × (filled ≤ length input.old) × (filled ≤ (limits_of start.setup).session) }
     requires opens { Opens (take filled input.old) start from }
 {
-    let behind = feed_bytes(writer, errors, start, &input[from..filled], output);
-    let session = behind.session;
-    if !behind.is_open {
-        return;
-    }
-    receive_rest(
-        reader,
-        writer,
-        errors,
-        session,
-        input,
-        output,
-        SESSION_LIMIT - (filled - from) as u64,
-    );
+    let session = feed_bytes(writer, start, &input[from..filled], output)?;
+    let left = SESSION_LIMIT - (filled - from) as u64;
+    receive_rest(reader, writer, session, input, output, left)
 }
 
-// Reads until the first line is known: its 0x0A came, or 65 bytes, or the input ended.
-fn read_first_bytes<R: Read, E: Write>(
-    reader: &mut R,
-    errors: &mut E,
-    input: &mut [u8],
-) -> FirstBytes
-    requires { 65 ≤ length input.old }
-    ensures { result.filled ≤ length input.new }
+// Reads until the first line is known: its 0x0A came, or 65 bytes, or the input ended. How many bytes came.
+fn read_first_bytes<R: Read>(reader: &mut R, input: &mut [u8; READ]) -> Result<usize, Stop>
+    ensures { IfOk result (λ filled. filled ≤ length input.new) }
 {
+    // a `while`, since each read decides how far the next turn begins
     let mut filled: usize = 0;
     while filled < 65 {
-        let got = read_some(reader, errors, &mut input[filled..]);
-        let Got::Bytes(count) = got else {
-            return FirstBytes {
-                filled: filled,
-                last: got,
-            };
-        };
+        let count = console::read_some(reader, &mut input[filled..])?;
         filled += count;
-        if setup_line::line_end(&input[..filled]) < filled {
-            return FirstBytes {
-                filled: filled,
-                last: got,
-            };
+        if count == 0 || setup_line::line_end(&input[..filled]) < filled {
+            return Ok(filled);
         }
     }
-    FirstBytes {
-        filled: filled,
-        last: Got::Bytes(filled),
-    }
+    Ok(filled)
 }
 
 // Prints that the first line of the input is refused. Only the contract speaks of the bytes.
-fn refuse_line<W: Write, E: Write>(writer: &mut W, errors: &mut E, bytes: &[u8], number: u8)
-    requires { (line_read (first_line bytes.now)).answer ≡ Refused number }
+fn refuse_line<W: Write>(writer: &mut W, bytes: &[u8], refusal: Refusal) -> Result<(), Stop>
+    requires { (line_read (first_line bytes.now)).answer ≡ Err refusal }
 {
-    print_refusal(writer, errors, number);
+    print_refusal(writer, refusal)
 }
 
-// Judges the first line and receives what comes behind it.
-fn run<R: Read, W: Write, E: Write>(
+// Judges the first line and receives what comes behind it: nothing, where the input ended without the line's 0x0A. Reader, writer and buffers stay
+// arguments, so that each function shows which of them it touches.
+fn run<R: Read, W: Write>(
     reader: &mut R,
     writer: &mut W,
-    errors: &mut E,
-    input: &mut [u8],
-    output: &mut [u8],
-)
-    requires { (65536 ≡ length input.old) × (131072 ≡ length output.old) }
-{
-    let first = read_first_bytes(reader, errors, input);
-    let filled = first.filled;
-    let last = first.last;
-    if let Got::Failed = last {
-        return;
-    }
-    let end = setup_line::line_end(&input[..filled]);
-    let line = setup_line::read_line(&input[..end]);
+    input: &mut [u8; READ],
+    output: &mut [u8; ROOM],
+) -> Result<(), Stop> {
+    let filled = read_first_bytes(reader, input)?;
+    let bytes = &input[..filled];
+    let end = setup_line::line_end(bytes);
+    let line = setup_line::read_line(&bytes[..end]);
     let setup = line.setup;
     let answer = line.answer;
-    if let Ruling::Refused(number) = answer {
-        refuse_line(writer, errors, &input[..filled], number);
-        return;
+    if let Err(refusal) = answer {
+        return refuse_line(writer, bytes, refusal);
     }
-    if let Got::Bytes(count) = last {
-        let opened = session::open(setup);
-        let session = opened.session;
-        let from = least(end + 1, filled);
-        receive(reader, writer, errors, session, input, output, from, filled);
+    if end == filled {
+        return Ok(());
     }
-}
-
-// Room for the lines of several parts.
-fn line_room() -> [u8; 131072]
-    ensures { 131072 ≡ length result }
-{
-    [0; 131072]
+    let opened = session::open(setup);
+    let session = opened.session;
+    receive(reader, writer, session, input, output, end + 1, filled)
 }
 
 fn main(rt: HostRuntime) {
-    let mut reader = rt.stdin();
-    let mut writer = rt.stdout();
-    let mut errors = rt.stderr();
     let mut input = console::large_buffer();
-    let mut output = line_room();
-    run(
-        &mut reader,
-        &mut writer,
-        &mut errors,
-        &mut input,
-        &mut output,
-    );
+    let mut output = console::zeros::<ROOM>();
+    let ran = run(&mut rt.stdin(), &mut rt.stdout(), &mut input, &mut output);
+    if let Err(stop) = ran {
+        console::tell_stop(&mut rt.stderr(), stop);
+    }
 }

@@ -1,65 +1,35 @@
--- More bytes kept behind those of a line, one after the other, up to 513. Assumes nothing.
-use Prim.Native.Nat.{ℕ, ◌+◌, ◌≤◌, ◌<◌, min}
+-- More bytes kept behind those of a line, up to 513. Assumes nothing.
+use Prim.Native.Nat.{ℕ, ◌+◌, ◌-◌, ◌≤◌, min}
 use mathlib.Core.Path.{◌≡◌, sym, ap, ◌∙◌}
-use mathlib.Core.List.{List, [], ◌∷◌, ◌++◌, append_assoc, append-nil}
-use native.Mathlib.Numerals.{add-one}
+use mathlib.Core.List.{List, ◌++◌}
 use native.Mathlib.Omega.{arith}
-use lib.ListN.{length, take, drop, get_or, set, length-append, length-set, take-append-drop}
-use lib.Seq.{take_all, take_at, length-take-le, take-suc, take-suc-set}
+use borrow.Rule.Slice.PartMut.{put_mid, post_of}
+use lib.ListN.{length, take, length-append, length-take}
+use lib.Seq.{take_all, take-take, take-append-add, take-append-le, length-take-le}
+use Rattle.stim_make.specs.MadeLines.{line_of}
+use Rattle.stim_make.specs.declared.line.Line.{Line}
 
-module _ (h s : List ℕ) where
-  -- i bytes of s stand behind h
-  pub record Keeping (bytes : List ℕ) (used i : ℕ) : Type 0 where
-    pub long : length bytes ≡ 513
-    pub short : used ≤ 513
-    pub within : i ≤ length s
-    pub place : used ≡ length h + i
-    pub text : take used bytes ≡ h ++ take i s
+-- n bytes of s have room behind those of the line
+module _ (l : Line) (s : List ℕ) (n : ℕ) (long : length l.bytes ≡ 513) (short : l.used ≤ 513) (room : n ≡ min (length s) (513 - l.used)) where
+  own : length (line_of l) ≡ l.used
+  own = length-take-le l.used l.bytes (omega (arith, long))
 
-  pub keeping_none : {bytes : List ℕ} {used : ℕ} → length bytes ≡ 513 → used ≤ 513 → h ≡ take used bytes → Keeping bytes used 0
-  keeping_none {bytes} {used} l k e =
-      record {
-        long = l;
-        short = k;
-        within = omega arith;
-        place = omega (arith, ap length e, length-take-le used bytes (omega arith));
-        text = sym e ∙ sym (append-nil h);
-      }
+  first : take (513 - l.used) s ≡ take n s
+  first =
+      sym (take_all n (take (513 - l.used) s) (omega (arith, length-take (513 - l.used) s, room)))
+      ∙ take-take n (513 - l.used) s (omega (arith, room))
 
-  module _ {bytes : List ℕ} {used i : ℕ} (K : Keeping bytes used i) where
-    -- one more
-    pub keeping_more : i < length s → used < 513 → Keeping (set bytes used (get_or s i 0)) (used + 1) (i + 1)
-    keeping_more more room =
-        record {
-          long = length-set bytes used (get_or s i 0) ∙ K.long;
-          short = omega arith;
-          within = omega arith;
-          place = omega (arith, K.place);
-          text =
-              ap (λ (n : ℕ). take n (set bytes used (get_or s i 0))) (add-one used)
-              ∙ take-suc-set bytes used (get_or s i 0) (omega (arith, K.long))
-              ∙ ap (λ (t : List ℕ). t ++ get_or s i 0 ∷ []) K.text
-              ∙ append_assoc h (take i s) (get_or s i 0 ∷ [])
-              ∙ ap (λ (t : List ℕ). h ++ t) (sym (take-suc s i 0 more))
-              ∙ ap (λ (n : ℕ). h ++ take n s) (sym (add-one i));
-        }
+  pub kept_size : l.used + n ≡ min (length (line_of l ++ s)) 513
+  kept_size = omega (arith, length-append (line_of l) s, own, room)
 
-    -- all of them are there
-    pub kept_all : length s ≤ i → take used bytes ≡ take 513 (h ++ s)
-    kept_all l =
-        K.text ∙ ap (λ (t : List ℕ). h ++ t) (take_all i s l)
-        ∙ sym (take_all 513 (h ++ s) (omega (arith, length-append h s, K.place, K.short, K.within)))
-
-    pub kept_size_all : length s ≤ i → used ≡ min (length (h ++ s)) 513
-    kept_size_all l = omega (arith, length-append h s, K.place, K.short, K.within)
-
-    -- no more have room
-    pub kept_full : 513 ≤ used → take used bytes ≡ take 513 (h ++ s)
-    kept_full l =
-        let long : length (h ++ take i s) ≡ 513 = omega (arith, length-append h (take i s), length-take-le i s K.within, K.place, K.short) in
-        K.text
-        ∙ sym (take_at (h ++ take i s) (drop i s) 513 long)
-        ∙ ap (take 513) (append_assoc h (take i s) (drop i s) ∙ ap (λ (t : List ℕ). h ++ t) (take-append-drop i s))
-
-    pub kept_size_full : 513 ≤ used → used ≡ min (length (h ++ s)) 513
-    kept_size_full l = omega (arith, length-append h s, K.place, K.short, K.within)
+  pub kept_bytes : (k : ℕ) {more : List ℕ} → more ≡ take n s → take (l.used + n) (put_mid l.used k l.bytes more) ≡ take 513 (line_of l ++ s)
+  kept_bytes k {more} e =
+      let whole : l.used + n ≡ length (line_of l) + n = omega (arith, own) in
+      let most : length (line_of l) + (513 - l.used) ≡ 513 = omega (arith, own) in
+      let some : length more ≡ n = ap length e ∙ length-take-le n s (omega (arith, room)) in
+      ap (λ (m : ℕ). take m (put_mid l.used k l.bytes more)) whole
+      ∙ take-append-add (line_of l) (more ++ post_of l.used k l.bytes) n
+      ∙ ap (λ (t : List ℕ). line_of l ++ t)
+      (take-append-le n more (post_of l.used k l.bytes) (omega (arith, some)) ∙ take_all n more (omega (arith, some)) ∙ e ∙ sym first)
+      ∙ sym (take-append-add (line_of l) s (513 - l.used))
+      ∙ ap (λ (m : ℕ). take m (line_of l ++ s)) most

@@ -11,7 +11,8 @@ use lib.ListN.{length, take, drop, take-append-drop}
 use lib.Seq.{take_all, take_at, length-take-le}
 use Rattle.setup.specs.declared.Setup.{Setup}
 use Rattle.rehearsal.specs.RehearsalLine.{rehearsal_of}
-use Rattle.rehearsal.specs.declared.Rehearsed.TheVariants.{TooLong}
+use Rattle.std.specs.Prelude.{Err}
+use Rattle.rehearsal.specs.declared.Fault.TheVariants.{TooLong}
 use Rattle.setup_line.specs.SetupLine.{line_end}
 use Rattle.stim_make.specs.MadeLines.{datagram_of, datagrams_in, line_in, next_number, number_in}
 
@@ -52,7 +53,7 @@ number_append n (b ∷ s) t = by (eqb b 0x0A) refl (number_append (next_number n
 
 -- ---- the first 513 bytes of a line
 
-too_long : (h : List ℕ) → 513 ≤ length h → rehearsal_of h ≡ TooLong
+too_long : (h : List ℕ) → 513 ≤ length h → rehearsal_of h ≡ Err TooLong
 unfolding rehearsal_of
 too_long h l = rw (lt-ltb 512 (length h) (omega arith))
 

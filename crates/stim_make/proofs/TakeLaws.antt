@@ -10,7 +10,7 @@ use Rattle.integers.proofs.Buffers.{to_end, sets_append, put_front, put_part}
 use Rattle.setup.specs.declared.Setup.{Setup}
 use Rattle.setup_line.specs.SetupLine.{line_end}
 use Rattle.stim_make.specs.MadeLines.{datagram_of, datagrams_in, line_in, next_number, number_in, line_of, with_text, Keeps, IsTaken}
-use Rattle.stim_make.specs.declared.Line.{Line}
+use Rattle.stim_make.specs.declared.line.Line.{Line}
 use Rattle.stim_make.specs.declared.Taken.{Taken}
 use Rattle.stim_make.proofs.LineLaws.{datagrams_append, line_append, number_append, datagram_kept, datagrams_kept, line_kept, within, ended}
 

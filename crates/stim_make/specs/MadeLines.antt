@@ -1,26 +1,22 @@
 -- A helper of proofs, no rule of 02: what the contracts of the program that makes datagrams cite, the datagrams of the lines among bytes, and how the
 -- program keeps a line.
-use Rattle.std.specs.Prelude.{ℕ, ◌+◌, ◌≤◌, ◌<◌, min, ◌≡◌, Bool, true, false, cond, List, [], ◌∷◌, ◌++◌, eqb, ltb, length, take, drop}
+use Rattle.std.specs.Prelude.{ℕ, ◌+◌, ◌≤◌, ◌<◌, min, ◌≡◌, Bool, true, false, cond, List, [], ◌∷◌, ◌++◌, eqb, ltb, length, take, drop, Result, Ok, Err}
 use Rattle.setup.specs.declared.Setup.{Setup}
+use Rattle.setup_line.specs.SetupLine.{line_end}
 use Rattle.made_datagram.specs.Making.{made_datagram, outside}
 use Rattle.rehearsal.specs.RehearsalLine.{readings_in, values_in, rehearsal_of}
-use Rattle.rehearsal.specs.declared.Rehearsed.{Rehearsed}
-use Rattle.rehearsal.specs.declared.Rehearsed.TheVariants.{Written, TooLong, OtherCount, NoNumber}
-use Rattle.stim_make.specs.declared.Got.{Got}
-use Rattle.stim_make.specs.declared.Got.TheVariants.{Bytes, End, Failed}
-use Rattle.stim_make.specs.declared.Line.{Line}
+use Rattle.rehearsal.specs.declared.Fault.{Fault}
+use Rattle.stim_make.specs.declared.line.Line.{Line}
 use Rattle.stim_make.specs.declared.Taken.{Taken}
-use Rattle.stim_make.specs.declared.Fed.{Fed}
+use Rattle.stim_make.specs.declared.Behind.{Behind}
 
 -- ---- the datagrams of lines
 
 -- the datagram of a line that is written as it should be and whose values fit, and of another none
-abbrev pub made_with : Rehearsed → Bool → List ℕ → List ℕ
-made_with Written false datagram = datagram
-made_with Written true datagram = []
-made_with TooLong outside datagram = []
-made_with OtherCount outside datagram = []
-made_with NoNumber outside datagram = []
+abbrev pub made_with : Result (Unit {0}) Fault → Bool → List ℕ → List ℕ
+made_with (Ok accepted) false datagram = datagram
+made_with (Ok accepted) true datagram = []
+made_with (Err fault) outside datagram = []
 
 unfoldable pub datagram_of : Setup → List ℕ → List ℕ
 datagram_of u line = made_with (rehearsal_of line) (outside u (readings_in line) (values_in line)) (made_datagram u (readings_in line) (values_in line))
@@ -43,12 +39,6 @@ number_in n [] = n
 number_in n (b ∷ s) = cond (eqb b 0x0A) (number_in (next_number n) s) (number_in n s)
 
 -- ---- the program
-
--- bytes that a read gave are one or more, and lie in the buffer
-abbrev pub GotWithin : Got → ℕ → Type 0
-GotWithin (Bytes n) size = (0 < n) × (n ≤ size)
-GotWithin End size = 0 ≤ size
-GotWithin Failed size = 0 ≤ size
 
 -- the bytes of a line that are kept
 abbrev pub line_of : Line → List ℕ
@@ -73,8 +63,11 @@ pub record IsTaken (u : Setup) (l : Line) (s b b' : List ℕ) (r : Taken) : Type
   pub made : r.made ≡ length (datagrams_in u (line_of l) (take r.taken s))
   pub text : b' ≡ with_text (datagrams_in u (line_of l) (take r.taken s)) b
 
--- bytes were taken, all where standard output took their datagrams
-pub record AreFed (l : Line) (s : List ℕ) (r : Fed) : Type 0 where
-  pub short : r.line.used ≤ 513
-  pub number : r.is_open ≡ true → r.line.number ≡ number_in l.number s
-  pub line : r.is_open ≡ true → Keeps r.line (line_in (line_of l) s)
+-- bytes were taken, all of them: the line under way behind them
+pub record AreFed (l : Line) (s : List ℕ) (l' : Line) : Type 0 where
+  pub number : l'.number ≡ number_in l.number s
+  pub line : Keeps l' (line_in (line_of l) s)
+
+-- the rehearsal lines lie behind the first 0x0A of the bytes that came into the buffer
+abbrev pub LiesBehind : List ℕ → Behind → Type 0
+LiesBehind input b = (b.from ≡ line_end (take b.filled input) + 1) × (b.from ≤ b.filled) × (b.filled ≤ length input)

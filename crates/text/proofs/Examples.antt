@@ -11,8 +11,8 @@ use Rattle.setup.specs.declared.Setup.{Setup}
 use Rattle.gaps.specs.declared.Gap.TheVariants.{Missed}
 use Rattle.motion.specs.Totals.{groups_kept}
 use Rattle.motion.specs.declared.Total.{Total}
-use Rattle.motion.specs.declared.GroupTotals.{GroupTotals}
-use Rattle.motion.specs.declared.Totals.{Totals}
+use Rattle.motion.specs.Totals.{GroupTotals}
+use Rattle.motion.specs.Totals.{Totals}
 use Rattle.shown_line.specs.Decimal.{digits_by, digits_from, digits, decimal}
 use Rattle.shown_line.specs.ShownLine.{group_fields, groups_fields, shown_fields, parted, shown_text, longest_line}
 use Rattle.text.specs.TextLine.{shown_by, line_text}

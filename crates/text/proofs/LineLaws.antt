@@ -13,19 +13,20 @@ use lib.IntN.{ℤ}
 use lib.ListN.{length, drop, get_or}
 use Rattle.setup.specs.Setup.{Rule, rule, first_number, first_of, setup_rules, ruling_on}
 use Rattle.setup.specs.declared.Setup.{Setup}
-use Rattle.setup.specs.declared.Ruling as ruling
-use Rattle.setup.specs.declared.Ruling.{Ruling}
 use Rattle.setup.proofs.Refusals.{judge_numbers}
 use Rattle.setup.proofs.Rules.{buffer_refused, none_applies, refused_split, accepted_split}
 use Rattle.gaps.specs.declared.Gap.{Gap}
-use Rattle.motion.specs.declared.Totals.{Totals}
+use Rattle.motion.specs.Totals.{Totals}
 use Rattle.shown_line.specs.ShownLine.{readings_fit, totals_within, outside, room_rules, shown_rules, written_number, written_bytes, longest_line}
-use Rattle.shown_line.specs.declared.Written.{Written}
 use Rattle.shown_line.proofs.Answers.{inside}
 use Rattle.shown_line.proofs.Longest.{MissedFits, shown_longest}
 use Rattle.shown_line.proofs.ShownLaws.{refused_by, written_by_lem, number_by, last_fourteen, last_numbers, shown_enough, shown_short}
 use Rattle.text.specs.TextLine.{shown_by, line_text, line_rules, line_ruling, line_answer, line_buffer}
 use Rattle.text.proofs.Answers.{accepted_answer}
+use Rattle.std.specs.Prelude.{Result, Ok, Err}
+use Rattle.refusals.specs.Refusals.{Ruling}
+use Rattle.refusals.specs.declared.Refusal.{Refusal}
+use Rattle.refusals.specs.declared.Refusal.TheVariants.{LineOutside}
 
 -- ---- a line under a setup
 
@@ -39,41 +40,44 @@ module _ (b : List ℕ) (setup : Setup) (ordinal counter latency : ℕ) (gap : G
   abbrev ruling_line : Ruling
   ruling_line = line_ruling b setup ordinal counter latency gap readings statuses totals
 
-  abbrev answer : Written
+  abbrev answer : Result ℕ Refusal
   answer = line_answer b setup ordinal counter latency gap readings statuses totals
 
   abbrev buffer : List ℕ
   buffer = line_buffer b setup ordinal counter latency gap readings statuses totals
 
   abbrev rules : List Rule
-  rules = rule 13 (outside ordinal readings totals) ∷ room_rules text (length b)
+  rules = rule LineOutside (outside ordinal readings totals) ∷ room_rules text (length b)
 
   -- which list of rules refuses it, where one does
-  refused_of : {n : ℕ} → written_number answer ≡ some n → (ruling_on setup ≡ ruling.TheVariants.Refused n) ⊎ (first_of rules ≡ ruling.TheVariants.Refused n)
+  refused_of : {e : Refusal} → ruling_line ≡ Err e → (ruling_on setup ≡ Err e) ⊎ (first_of rules ≡ Err e)
   unfolding line_answer line_ruling line_rules shown_rules ruling_on
-  refused_of e = refused_split (setup_rules setup) rules (refused_by ruling_line text e)
+  refused_of q = refused_split (setup_rules setup) rules q
 
-  written_of : written_number answer ≡ none → (first_of (setup_rules setup ++ rules) ≡ ruling.TheVariants.Accepted) × (written_bytes answer ≡ length text)
+  written_of : written_number answer ≡ none → (first_of (setup_rules setup ++ rules) ≡ Ok tt) × (written_bytes answer ≡ length text)
   unfolding line_answer line_ruling line_rules shown_rules
   written_of e = written_by_lem ruling_line text e
 
   -- the number is that of the first rule that applies
   pub answer_number_lem : written_number answer ≡ first_number (line_rules setup ordinal readings totals text (length b))
   unfolding line_answer line_ruling
-  answer_number_lem = number_by (first_number (line_rules setup ordinal readings totals text (length b))) text
+  answer_number_lem = number_by (line_rules setup ordinal readings totals text (length b)) text
 
   -- a line is refused by 4 to 9, 13 and 14 only
   pub answer_numbers : {n : ℕ} → written_number answer ≡ some n → LineNumber n
-  answer_numbers e =
-      ⊎_elim (λ s. inl (judge_numbers setup s)) (λ l. inr (last_numbers (outside ordinal readings totals) (ltb (length b) (length text)) l)) (refused_of e)
+  unfolding line_answer
+  answer_numbers q =
+      let by = refused_by ruling_line text q in
+      rw (← by.2)
+      (⊎_elim (λ s. inl (judge_numbers setup s)) (λ l. inr (last_numbers (outside ordinal readings totals) (ltb (length b) (length text)) l)) (refused_of by.1))
 
   -- a refusal writes nothing
   pub refused_keeps : {n : ℕ} → written_number answer ≡ some n → buffer ≡ b
   unfolding line_answer line_buffer
-  refused_keeps e = buffer_refused ruling_line text b (refused_by ruling_line text e)
+  refused_keeps e = buffer_refused ruling_line text b (refused_by ruling_line text e).1
 
   -- what is written has been accepted, and has room
-  pub written_fits : written_number answer ≡ none → (ruling_on setup ≡ ruling.TheVariants.Accepted) × (outside ordinal readings totals ≡ false) × (length text ≤ length b)
+  pub written_fits : written_number answer ≡ none → (ruling_on setup ≡ Ok tt) × (outside ordinal readings totals ≡ false) × (length text ≤ length b)
   unfolding ruling_on
   written_fits e =
       let a = accepted_split (setup_rules setup) rules (written_of e).0 in
@@ -91,7 +95,7 @@ module _ (b : List ℕ) (setup : Setup) (ordinal counter latency : ℕ) (gap : G
   written_whole e = ((written_fits e).2, (written_of e).1, written_front e ∙ ap (λ (n : ℕ). text ++ drop n b) (written_of e).1)
 
   -- a buffer as long as the line is enough, and one that is shorter isn't
-  module _ (a : ruling_on setup ≡ ruling.TheVariants.Accepted) (h : outside ordinal readings totals ≡ false) where
+  module _ (a : ruling_on setup ≡ Ok tt) (h : outside ordinal readings totals ≡ false) where
     pub enough_room : length text ≤ length b → written_number answer ≡ none
     unfolding line_text
     enough_room l =
@@ -115,10 +119,12 @@ module _ (b : List ℕ) (setup : Setup) (ordinal counter latency : ℕ) (gap : G
 
   -- so a buffer of that many bytes is never too short
   pub never_short : ordinal < 2 ^ 64 → counter < 256 → latency < 65536 → MissedFits gap → ((i : ℕ) → get_or statuses i 0 < 256) → longest_line ≤ length b → written_number answer ≡ some 14 → ⊥
-  never_short o c l g s room e =
-      ⊎_elim (λ f. let n = judge_numbers setup f in omega arith)
+  unfolding line_answer
+  never_short o c l g s room q =
+      let by = refused_by ruling_line text q in
+      ⊎_elim (λ f. let n = judge_numbers setup f in omega (arith, by.2))
       (λ f.
-      let t = last_fourteen (outside ordinal readings totals) (ltb (length b) (length text)) f in
+      let t = last_fourteen (outside ordinal readings totals) (ltb (length b) (length text)) f by.2 in
       let i = inside ordinal readings totals t.0 in
       omega (arith, ltb-true (length b) (length text) t.1, longest o c l g s i.0 i.1))
-      (refused_of e)
+      (refused_of by.1)

@@ -1,17 +1,17 @@
 -- 01, The text line, of a datagram under a setup; and 'What is turned down': 4 to 9 for the line's setup, then 13 and 14.
-use Rattle.std.specs.Prelude.{ℕ, List, ◌++◌, ℤ, length}
+use Rattle.std.specs.Prelude.{ℕ, List, ◌++◌, ℤ, length, Result}
 use Rattle.setup.specs.Layout.{groups_of, groups_carried}
 use Rattle.setup.specs.Setup.{Rule, first_of, buffer_by, setup_rules}
 use Rattle.setup.specs.declared.Setup.{Setup}
 use Rattle.setup.specs.declared.Row.{Row}
-use Rattle.setup.specs.declared.Units.{Units}
-use Rattle.setup.specs.declared.Ruling.{Ruling}
+use Rattle.setup.specs.Sensor.{Units}
 use Rattle.gaps.specs.declared.Gap.{Gap}
 use Rattle.motion.specs.Totals.{groups_kept, kept_by}
-use Rattle.motion.specs.declared.Totals.{Totals}
+use Rattle.motion.specs.Totals.{Totals}
 use Rattle.shown_line.specs.ShownLine.{shown_text, shown_rules, written_by}
 use Rattle.shown_line.specs.declared.Shown.{Shown}
-use Rattle.shown_line.specs.declared.Written.{Written}
+use Rattle.refusals.specs.Refusals.{Ruling}
+use Rattle.refusals.specs.declared.Refusal.{Refusal}
 
 -- what a setup shows: the groups that it carries, and the totals of those that it keeps
 unfoldable pub shown_by : Setup → Shown
@@ -40,7 +40,7 @@ module _ (b : List ℕ) (setup : Setup) (ordinal counter latency : ℕ) (gap : G
   unfoldable pub line_ruling : Ruling
   line_ruling = first_of (line_rules setup ordinal readings totals (line_text setup ordinal counter latency gap readings statuses totals) (length b))
 
-  unfoldable pub line_answer : Written
+  unfoldable pub line_answer : Result ℕ Refusal
   line_answer = written_by line_ruling (line_text setup ordinal counter latency gap readings statuses totals)
 
   unfoldable pub line_buffer : List ℕ

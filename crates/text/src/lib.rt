@@ -3,10 +3,10 @@
 ghost use Rattle.std.specs.Prelude.{◌≡◌};
 ghost use Rattle.text.specs.TextLine.{shown_of, line_answer, line_buffer};
 
-use gaps::{Datagrams, Gap};
-use motion::Totals;
-use setup::{Described, Row, Setup, Units};
-use shown_line::{Shown, Written};
+use refusals::Refusal;
+use setup::{Row, Setup, Units};
+use shown_line::Shown;
+use text_line::LineValues;
 
 // What is shown of a sensor, by what its datagrams carry and the units of the groups.
 pub fn shown_of(row: Row, units: Units) -> Shown
@@ -21,30 +21,12 @@ pub fn shown_of(row: Row, units: Units) -> Shown
 }
 
 // Writes the line of what a setup shows, as `text_line::write_shown` does, after the setup itself, which 4 to 9 refuse.
-pub fn write_line(
-    buffer: &mut [u8],
-    setup: Setup,
-    ordinal: Datagrams,
-    counter: u8,
-    latency: u16,
-    gap: Gap,
-    readings: [[i32; 3]; 3],
-    statuses: [u8; 3],
-    totals: Totals,
-) -> Written
-    ensures answer { result ≡ line_answer buffer.old setup ordinal.0 counter latency gap readings statuses totals }
-    ensures written { buffer.new ≡ line_buffer buffer.old setup ordinal.0 counter latency gap readings statuses totals }
+#[tactic(auto, using(crate::proofs::Answers::line_in_turn, crate::proofs::Answers::buffer_in_turn))]
+pub fn write_line(buffer: &mut [u8], setup: Setup, values: LineValues) -> Result<usize, Refusal>
+    ensures answer { result ≡ line_answer buffer.old setup values.ordinal.0 values.counter values.latency values.gap values.readings values.statuses values.totals }
+    ensures written { buffer.new ≡ line_buffer buffer.old setup values.ordinal.0 values.counter values.latency values.gap values.readings values.statuses values.totals }
 {
-    let described = setup::describe(setup);
-    match described {
-        Described::Accepted(sensor) => {
-            let row = sensor.row;
-            let units = sensor.units;
-            let shown = shown_of(row, units);
-            text_line::write_shown(
-                buffer, shown, ordinal, counter, latency, gap, readings, statuses, totals,
-            )
-        }
-        Described::Refused(number) => Written::Refused(number),
-    }
+    let sensor = setup::describe(setup)?;
+    let shown = shown_of(sensor.row, sensor.units);
+    text_line::write_shown(buffer, shown, values)
 }

@@ -7,21 +7,28 @@ ghost use Rattle.shown_line.specs.Putting.{behind, heading_text, room_answer, ro
 ghost use Rattle.shown_line.specs.ShownLine.{shown_if, missed_field, axis_fields, total_field, total_fields, group_fields, groups_fields, shown_text};
 ghost use Rattle.shown_line.specs.ShownLine.{row_fits, readings_fit, total_within, group_within, totals_within, outside};
 ghost use Rattle.shown_line.specs.ShownLine.{shown_answer, shown_buffer, longest_line};
+ghost use Rattle.shown_line.proofs.Longest.{MissedFits};
 
 use gaps::{Datagrams, Gap};
 use motion::{GroupTotals, Total, Totals};
-use shown_line::{Shown, Written};
+use refusals::Refusal;
+use shown_line::Shown;
 
-// The fields before the groups.
-#[derive(Clone, Copy)]
-struct Heading {
-    ordinal: Datagrams,
-    counter: u8,
-    latency: u16,
-    gap: Gap,
+// What a line says of a datagram: its ordinal from 1, its counter and latency, what lies before it, and what it says of each group.
+#[derive(Clone, Copy, Debug, PartialEq, Eq)]
+pub struct LineValues {
+    pub ordinal: Datagrams,
+    pub counter: u8,
+    pub latency: u16,
+    pub gap: Gap,
+    // gyro, accelerometer, inclinometer
+    pub readings: [[i32; 3]; 3],
+    pub statuses: [u8; 3],
+    pub totals: Totals,
 }
 
-// The last three digits of a number, zeros included.
+// The last three digits of a number, zeros included. The buffer and the place stay two arguments here and below: each promise, `Put`, tells of the buffer
+// and of both places.
 fn put_three(buffer: &mut [u8], at: usize, n: u32) -> usize
     requires { at + 3 ≤ length buffer.old }
     ensures { Put buffer.old at (last_three n) buffer.new result }
@@ -49,7 +56,8 @@ fn put_small(buffer: &mut [u8], at: usize, n: u32) -> usize
     put_three(buffer, at, n)
 }
 
-// The digits of a number below a million, and below a thousand million: three more behind those of its thousands.
+// The digits of a number below a million, and below a thousand million: three more behind those of its thousands. Two functions, since one for both would
+// have to be told which it calls.
 fn put_million(buffer: &mut [u8], at: usize, n: u32) -> usize
     requires { (n < 1000000) × (at + length (digits n) ≤ length buffer.old) }
     ensures { Put buffer.old at (digits n) buffer.new result }
@@ -135,14 +143,14 @@ fn put_missed(buffer: &mut [u8], at: usize, gap: Gap) -> usize
     }
 }
 
-fn put_heading(buffer: &mut [u8], heading: Heading) -> usize
-    requires { length (heading_text heading.ordinal.0 heading.counter heading.latency heading.gap) ≤ length buffer.old }
-    ensures { Put buffer.old 0 (heading_text heading.ordinal.0 heading.counter heading.latency heading.gap) buffer.new result }
+fn put_heading(buffer: &mut [u8], values: LineValues) -> usize
+    requires { length (heading_text values.ordinal.0 values.counter values.latency values.gap) ≤ length buffer.old }
+    ensures { Put buffer.old 0 (heading_text values.ordinal.0 values.counter values.latency values.gap) buffer.new result }
 {
-    let ordinal = put_digits(buffer, 0, heading.ordinal.0);
-    let counter = put_unsigned(buffer, ordinal, true, heading.counter as u64);
-    let latency = put_unsigned(buffer, counter, true, heading.latency as u64);
-    let gap = heading.gap;
+    let ordinal = put_digits(buffer, 0, values.ordinal.0);
+    let counter = put_unsigned(buffer, ordinal, true, values.counter as u64);
+    let latency = put_unsigned(buffer, counter, true, values.latency as u64);
+    let gap = values.gap;
     put_missed(buffer, latency, gap)
 }
 
@@ -174,6 +182,7 @@ fn put_totals(buffer: &mut [u8], at: usize, kept: bool, totals: GroupTotals) -> 
     put_total(buffer, y, kept, totals.z)
 }
 
+// The fields of a group: what they are made of comes from three places, so it stays apart.
 fn put_group(
     buffer: &mut [u8],
     at: usize,
@@ -233,21 +242,22 @@ fn put_groups(
 }
 
 // The line at the front of a buffer with room for it.
-fn put_line(
-    buffer: &mut [u8],
-    shown: Shown,
-    heading: Heading,
-    readings: [[i32; 3]; 3],
-    statuses: [u8; 3],
-    totals: Totals,
-) -> usize
-    requires { length (shown_text shown heading.ordinal.0 heading.counter heading.latency heading.gap readings statuses totals) ≤ length buffer.old }
-    ensures { Put buffer.old 0 (shown_text shown heading.ordinal.0 heading.counter heading.latency heading.gap readings statuses totals) buffer.new result }
+fn put_line(buffer: &mut [u8], shown: Shown, values: LineValues) -> usize
+    requires { length (shown_text shown values.ordinal.0 values.counter values.latency values.gap values.readings values.statuses values.totals) ≤ length buffer.old }
+    ensures { Put buffer.old 0 (shown_text shown values.ordinal.0 values.counter values.latency values.gap values.readings values.statuses values.totals) buffer.new result }
 {
     let carried = shown.carried;
     let kept = shown.kept;
-    let at = put_heading(buffer, heading);
-    let end = put_groups(buffer, at, carried, kept, readings, statuses, totals);
+    let at = put_heading(buffer, values);
+    let end = put_groups(
+        buffer,
+        at,
+        carried,
+        kept,
+        values.readings,
+        values.statuses,
+        values.totals,
+    );
     buffer[end] = 0x0A;
     end + 1
 }
@@ -273,49 +283,41 @@ fn total_within(total: Total) -> bool
 fn group_within(totals: GroupTotals) -> bool
     ensures { result ≡ group_within totals }
 {
-    total_within(totals.x) & total_within(totals.y) & total_within(totals.z)
+    totals.map(total_within).all()
 }
 
+#[tactic(auto, unfolding(shown_line::specs::ShownLine::totals_within))]
 fn totals_within(totals: Totals) -> bool
     ensures { result ≡ totals_within totals }
 {
-    group_within(totals.gyro)
-        & group_within(totals.accelerometer)
-        & group_within(totals.inclinometer)
+    totals.map(group_within).all()
 }
 
-fn outside(ordinal: Datagrams, readings: [[i32; 3]; 3], totals: Totals) -> bool
-    ensures { result ≡ outside ordinal.0 readings totals }
+fn outside(values: LineValues) -> bool
+    ensures { result ≡ outside values.ordinal.0 values.readings values.totals }
 {
-    !readings_fit(readings) | !totals_within(totals) | (ordinal.0 == 0)
+    !readings_fit(values.readings) | !totals_within(values.totals) | (values.ordinal.0 == 0)
 }
 
 // A whole line copied into a buffer, unless the buffer is shorter.
-fn copy_line(buffer: &mut [u8], line: &[u8]) -> Written
+fn copy_line(buffer: &mut [u8], line: &[u8]) -> Result<usize, Refusal>
     ensures answer { result ≡ room_answer buffer.old line.now }
     ensures written { buffer.new ≡ room_buffer buffer.old line.now }
 {
     if buffer.len() < line.len() {
-        return Written::Refused(14);
+        return Err(Refusal::LineRoom);
     }
-    Written::Line(byte_slices::copy(line, buffer))
+    Ok(byte_slices::copy(line, buffer))
 }
 
-// A line for a buffer that may be too short for it: written elsewhere first.
-fn write_apart(
-    buffer: &mut [u8],
-    shown: Shown,
-    heading: Heading,
-    readings: [[i32; 3]; 3],
-    statuses: [u8; 3],
-    totals: Totals,
-) -> Written
-    requires { length (shown_text shown heading.ordinal.0 heading.counter heading.latency heading.gap readings statuses totals) ≤ longest_line }
-    ensures answer { result ≡ room_answer buffer.old (shown_text shown heading.ordinal.0 heading.counter heading.latency heading.gap readings statuses totals) }
-    ensures written { buffer.new ≡ room_buffer buffer.old (shown_text shown heading.ordinal.0 heading.counter heading.latency heading.gap readings statuses totals) }
+// A line for a buffer that may be too short for it: written elsewhere first, in an array, since nothing here has a heap.
+fn write_apart(buffer: &mut [u8], shown: Shown, values: LineValues) -> Result<usize, Refusal>
+    requires { length (shown_text shown values.ordinal.0 values.counter values.latency values.gap values.readings values.statuses values.totals) ≤ longest_line }
+    ensures answer { result ≡ room_answer buffer.old (shown_text shown values.ordinal.0 values.counter values.latency values.gap values.readings values.statuses values.totals) }
+    ensures written { buffer.new ≡ room_buffer buffer.old (shown_text shown values.ordinal.0 values.counter values.latency values.gap values.readings values.statuses values.totals) }
 {
     let mut line: [u8; 307] = [0; 307];
-    let n = put_line(&mut line, shown, heading, readings, statuses, totals);
+    let n = put_line(&mut line, shown, values);
     copy_line(buffer, &line[..n])
 }
 
@@ -326,32 +328,27 @@ pub fn longest_line() -> usize
     307
 }
 
-// Writes the line at the front of the buffer and tells how many bytes it has, or refuses by 13 or 14 and writes nothing.
-pub fn write_shown(
-    buffer: &mut [u8],
-    shown: Shown,
-    ordinal: Datagrams,
-    counter: u8,
-    latency: u16,
-    gap: Gap,
-    readings: [[i32; 3]; 3],
-    statuses: [u8; 3],
-    totals: Totals,
-) -> Written
-    ensures answer { result ≡ shown_answer buffer.old shown ordinal.0 counter latency gap readings statuses totals }
-    ensures written { buffer.new ≡ shown_buffer buffer.old shown ordinal.0 counter latency gap readings statuses totals }
+// A count that is told is one of 64 bits: only the contract says something.
+fn fits_count(gap: Gap)
+    ensures { MissedFits gap }
 {
-    if outside(ordinal, readings, totals) {
-        return Written::Refused(13);
+    match gap {
+        Gap::Missed(_) => {}
+        Gap::OffStep => {}
     }
-    let heading = Heading {
-        ordinal: ordinal,
-        counter: counter,
-        latency: latency,
-        gap: gap,
-    };
+}
+
+// Writes the line at the front of the buffer and tells how many bytes it has, or refuses by 13 or 14 and writes nothing.
+pub fn write_shown(buffer: &mut [u8], shown: Shown, values: LineValues) -> Result<usize, Refusal>
+    ensures answer { result ≡ shown_answer buffer.old shown values.ordinal.0 values.counter values.latency values.gap values.readings values.statuses values.totals }
+    ensures written { buffer.new ≡ shown_buffer buffer.old shown values.ordinal.0 values.counter values.latency values.gap values.readings values.statuses values.totals }
+{
+    if outside(values) {
+        return Err(Refusal::LineOutside);
+    }
+    fits_count(values.gap);
     if buffer.len() < longest_line() {
-        return write_apart(buffer, shown, heading, readings, statuses, totals);
+        return write_apart(buffer, shown, values);
     }
-    Written::Line(put_line(buffer, shown, heading, readings, statuses, totals))
+    Ok(put_line(buffer, shown, values))
 }

@@ -8,7 +8,6 @@ use native.Mathlib.Omega.{arith}
 use lib.ListN.{length, length-append}
 use Rattle.setup.specs.Setup.{ruling_on, length_of}
 use Rattle.setup.specs.declared.Setup.{Setup}
-use Rattle.setup.specs.declared.Ruling.TheVariants.{Accepted}
 use Rattle.setup.proofs.Refusals.{accepted_length}
 use Rattle.shown_line.specs.ShownLine.{longest_line}
 use Rattle.scan.specs.Stream.{Among, end, other, then}
@@ -27,8 +26,9 @@ use Rattle.feeding.proofs.CallParts.{count_less}
 use Rattle.whole_piece.specs.Lines.{lines_after, lines_in, room_for, enough}
 use Rattle.whole_piece.specs.NextLines.{next_line}
 use Rattle.whole_piece.proofs.NextLines.{few_of, right_next, line_short, lines_more}
+use Rattle.std.specs.Prelude.{Ok}
 
-module _ (u : Setup) (ok : ruling_on u ≡ Accepted) where
+module _ (u : Setup) (ok : ruling_on u ≡ Ok tt) where
   -- each datagram of a stream has 18 bytes or more, and its line at most 307
   lines_longest :
       {v : List ℕ} {ds : List (List ℕ)} → Among (is_datagram u) v ds
@@ -53,7 +53,7 @@ module _ (u : Setup) (ok : ruling_on u ≡ Accepted) where
       )
 
 -- the lines of a piece that feeding doesn't refuse fit a buffer of so many bytes
-pub lines_fit : (s : Session) (p : List ℕ) → piece_ruling s (length p) ≡ Accepted → length (lines_in s p) ≤ room_for (length p)
+pub lines_fit : (s : Session) (p : List ℕ) → piece_ruling s (length p) ≡ Ok tt → length (lines_in s p) ≤ room_for (length p)
 unfolding lines_in
 lines_fit s p e =
     let A = admitted s (length p) e in
@@ -70,8 +70,8 @@ lines_fit s p e =
 pub room_enough : (n : ℕ) → n ≤ 4096 → room_for n ≤ enough
 room_enough n h = omega arith
 
-pub room_admitted : (s : Session) (n : ℕ) → piece_ruling s n ≡ Accepted → room_for n ≤ enough
+pub room_admitted : (s : Session) (n : ℕ) → piece_ruling s n ≡ Ok tt → room_for n ≤ enough
 room_admitted s n e = room_enough n (admitted s n e).piece
 
-pub lines_enough : (s : Session) (p : List ℕ) → piece_ruling s (length p) ≡ Accepted → length (lines_in s p) ≤ enough
+pub lines_enough : (s : Session) (p : List ℕ) → piece_ruling s (length p) ≡ Ok tt → length (lines_in s p) ≤ enough
 lines_enough s p e = omega (arith, lines_fit s p e, room_admitted s (length p) e)

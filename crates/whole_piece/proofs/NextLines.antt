@@ -13,7 +13,6 @@ use lib.ListN.{length, get_or}
 use Rattle.integers.proofs.Ranges.{range_in_reading}
 use Rattle.setup.specs.Setup.{ruling_on, length_of}
 use Rattle.setup.specs.declared.Setup.{Setup}
-use Rattle.setup.specs.declared.Ruling.TheVariants.{Accepted}
 use Rattle.setup.proofs.Refusals.{accepted_length}
 use Rattle.wire.specs.Fields.{Contents, fields_of}
 use Rattle.wire.proofs.FieldRanges.{Fitting, fields_fit}
@@ -40,6 +39,7 @@ use Rattle.feeding.specs.Feed.{history_after, datagram_with, consumer}
 use Rattle.feeding.proofs.BySetup.{after_datagram, told_datagram}
 use Rattle.whole_piece.specs.Lines.{line_of, lines_after}
 use Rattle.whole_piece.specs.NextLines.{next_line, text_of}
+use Rattle.std.specs.Prelude.{Ok}
 
 -- ---- a gap is a number of at most 256, or none
 
@@ -58,10 +58,10 @@ gap_fits rate first previous counter = by (first || eqb rate 0)
 -- ---- the line
 
 -- few datagrams, of 18 bytes or more each
-pub few_of : (u : Setup) → ruling_on u ≡ Accepted → (n rest : ℕ) → length_of u * n + rest ≤ (limits_of u).session → n < 2 ^ 30
+pub few_of : (u : Setup) → ruling_on u ≡ Ok tt → (n rest : ℕ) → length_of u * n + rest ≤ (limits_of u).session → n < 2 ^ 30
 few_of u a n rest h = omega (arith, mul-le-mul_right n (accepted_length u a).0)
 
-module _ (u : Setup) (ok : ruling_on u ≡ Accepted) (x : History) (d : List ℕ) where
+module _ (u : Setup) (ok : ruling_on u ≡ Ok tt) (x : History) (d : List ℕ) where
   abbrev inside_it : Contents
   inside_it = fields_of u.identifier d
 

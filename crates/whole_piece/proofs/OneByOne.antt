@@ -7,7 +7,6 @@ use mathlib.Core.List.{List, [], ◌∷◌, ◌++◌, append-nil}
 use lib.ListN.{length}
 use Rattle.setup.specs.Setup.{ruling_on}
 use Rattle.setup.specs.declared.Setup.{Setup}
-use Rattle.setup.specs.declared.Ruling.TheVariants.{Accepted}
 use Rattle.scan.specs.Scan.{scan}
 use Rattle.scan.specs.Calls.{taken_whole, Report}
 use Rattle.scan.specs.Stream.{outcome, reports, stream}
@@ -25,13 +24,14 @@ use Rattle.feeding.proofs.HistoryInvariant.{history_invariant}
 use Rattle.feeding.proofs.OneLength.{undecided_held}
 use Rattle.feeding.proofs.Agreement.{StateRun, run_of_states, run_of_sessions}
 use Rattle.whole_piece.specs.Lines.{found_in, answers_in, behind}
+use Rattle.std.specs.Prelude.{Ok}
 
 module _ (s : Session) (p : List ℕ) (e : is_sound s ≡ true) (few : length p ≤ (limits_of s.setup).piece)
     (most : s.fed + length p ≤ (limits_of s.setup).session) where
   abbrev setup : Setup
   setup = s.setup
 
-  ok : ruling_on setup ≡ Accepted
+  ok : ruling_on setup ≡ Ok tt
   ok = (sound_facts s e).accepted
 
   -- the whole piece counts

@@ -10,7 +10,6 @@ use lib.ListN.{length, length-append}
 use Rattle.integers.proofs.Buffers.{padded_front}
 use Rattle.setup.specs.Setup.{ruling_on}
 use Rattle.setup.specs.declared.Setup.{Setup}
-use Rattle.setup.specs.declared.Ruling.TheVariants.{Accepted}
 use Rattle.scan.specs.Scan.{Scanned, holding, scan}
 use Rattle.scan.specs.Carry.{told, carried_after}
 use Rattle.scan.proofs.ScanLaws.{followed, scan_waits, scan_append}
@@ -29,6 +28,7 @@ use Rattle.feeding.proofs.OneLength.{undecided_held}
 use Rattle.feeding.proofs.ContainedAt.{carried_datagrams}
 use Rattle.whole_piece.specs.Lines.{line_of, lines_after, found_in, answers_in, lines_in, behind}
 use Rattle.whole_piece.proofs.OneByOne.{behind_sound}
+use Rattle.std.specs.Prelude.{Ok}
 
 -- ---- the lines of datagrams, and of those that come after them
 
@@ -62,7 +62,7 @@ lines_then s p os =
 
 -- ---- a piece, and another behind it
 
-module _ (s : Session) (p q : List ℕ) (ok : ruling_on s.setup ≡ Accepted) where
+module _ (s : Session) (p q : List ℕ) (ok : ruling_on s.setup ≡ Ok tt) where
   abbrev between : Session
   between = session_of s.setup (behind s p)
 

@@ -1,11 +1,9 @@
 -- What feeding a piece to its end and writing a line for each datagram gives, at once.
-use Rattle.std.specs.Prelude.{ℕ, suc, ◌+◌, ◌*◌, ◌/◌, List, [], ◌∷◌, ◌++◌, length, drop}
+use Rattle.std.specs.Prelude.{ℕ, suc, ◌+◌, ◌*◌, ◌/◌, List, [], ◌∷◌, ◌++◌, length, drop, Result, Ok, Err}
 use Rattle.std.proofs.Math.Option.{Option, none, some}
 use Rattle.integers.specs.Bytes.{joined}
 use Rattle.setup.specs.Setup.{Rule, first_of}
 use Rattle.setup.specs.declared.Setup.{Setup}
-use Rattle.setup.specs.declared.Ruling as ruling
-use Rattle.setup.specs.declared.Ruling.{Ruling}
 use Rattle.shown_line.specs.ShownLine.{shown_text, room_rules, longest_line}
 use Rattle.text.specs.TextLine.{shown_by}
 use Rattle.shown_line.specs.declared.Shown.{Shown}
@@ -16,9 +14,9 @@ use Rattle.admission.specs.Admission.{held_bytes, piece_rules}
 use Rattle.session.specs.declared.Session.{Session}
 use Rattle.feeding.specs.Feed.{consumer, SessionState, state_of, session_of}
 use Rattle.feeding.specs.declared.Datagram.{Datagram}
-use Rattle.whole_piece.specs.declared.Received.{Received}
-use Rattle.whole_piece.specs.declared.Received.TheVariants.{Lines, Refused}
 use Rattle.whole_piece.specs.declared.Batch.{Batch}
+use Rattle.refusals.specs.Refusals.{number_of, Ruling}
+use Rattle.refusals.specs.declared.Refusal.{Refusal}
 
 -- the line of a datagram that came back, under its ordinal, with the fields that are shown
 abbrev pub line_by : Shown → ℕ → Datagram → List ℕ
@@ -72,12 +70,12 @@ abbrev pub enough : ℕ
 enough = 72000
 
 -- the answer: refused by 10, 11 or 12 as by feed, by 14 where the buffer is shorter than the lines; or the lines
-abbrev pub refusing : Session → ℕ → Batch
-refusing s n = record { answer = Refused n; session = s }
+abbrev pub refusing : Session → Refusal → Batch
+refusing s e = record { answer = Err e; session = s }
 
 abbrev pub batch_with : Ruling → Session → List ℕ → Batch
-batch_with ruling.TheVariants.Accepted s p = record { answer = Lines (length (lines_in s p)); session = session_of s.setup (behind s p) }
-batch_with (ruling.TheVariants.Refused n) s p = refusing s n
+batch_with (Ok accepted) s p = record { answer = Ok (length (lines_in s p)); session = session_of s.setup (behind s p) }
+batch_with (Err e) s p = refusing s e
 
 abbrev pub batch_rules : Session → List ℕ → ℕ → List Rule
 batch_rules s p room = piece_rules s (length p) ++ room_rules (lines_in s p) room
@@ -86,18 +84,18 @@ unfoldable pub batch_of : Session → List ℕ → ℕ → Batch
 batch_of s p room = batch_with (first_of (batch_rules s p room)) s p
 
 -- 01's number of an answer, none where the lines stand in the buffer; and how many bytes they have
-abbrev pub received_number : Received → Option ℕ
-received_number (Lines n) = none
-received_number (Refused n) = some n
+abbrev pub received_number : Result ℕ Refusal → Option ℕ
+received_number (Ok n) = none
+received_number (Err e) = some (number_of e)
 
-abbrev pub received_bytes : Received → ℕ
-received_bytes (Lines n) = n
-received_bytes (Refused n) = 0
+abbrev pub received_bytes : Result ℕ Refusal → ℕ
+received_bytes (Ok n) = n
+received_bytes (Err e) = 0
 
 -- the buffer at exit: the lines from the front and every later byte as it was, or all as it was
-abbrev pub buffer_by : Received → List ℕ → List ℕ → List ℕ
-buffer_by (Lines n) text b = text ++ drop n b
-buffer_by (Refused n) text b = b
+abbrev pub buffer_by : Result ℕ Refusal → List ℕ → List ℕ → List ℕ
+buffer_by (Ok n) text b = text ++ drop n b
+buffer_by (Err e) text b = b
 
 unfoldable pub batch_buffer : Session → List ℕ → List ℕ → List ℕ
 batch_buffer s p b = buffer_by (batch_of s p (length b)).answer (lines_in s p) b

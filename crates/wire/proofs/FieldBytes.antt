@@ -13,21 +13,20 @@ use Rattle.setup.specs.Layout.{counter, latency, widths, sum, parts_at, carries,
 use Rattle.setup.specs.Setup.{ruling_on}
 use Rattle.setup.specs.Sensor.{sensor_of}
 use Rattle.setup.specs.declared.Row.{Row}
-use Rattle.setup.specs.declared.Listing.TheVariants.{Listed}
 use Rattle.setup.specs.declared.Setup.{Setup}
-use Rattle.setup.specs.declared.Ruling.TheVariants as ruling
 use Rattle.setup.proofs.Rows.{listed_parts}
 use Rattle.setup.proofs.Sensors.{sensor_row}
 use Rattle.wire.specs.Fields.{groups, temperature_sets, window, fields_of_part, signed_field, unsigned_field, axes, contents, contents_of}
 use Rattle.wire.specs.Fields.{fields_of}
 use Rattle.wire.proofs.FieldPlaces.{cut_field, one_byte}
+use Rattle.std.specs.Prelude.{Some, Ok}
 
 -- the fields of a listed identifier are those of its row; so of an accepted setup they are those of its sensor's
-pub row_fields : (i : ℕ) {r : Row} (s : List ℕ) → row_at i ≡ Listed r → fields_of i s ≡ contents_of r s
+pub row_fields : (i : ℕ) {r : Row} (s : List ℕ) → row_at i ≡ Some r → fields_of i s ≡ contents_of r s
 unfolding fields_of contents_of
 row_fields i s e = ap (λ ps. contents ps s) (listed_parts i e)
 
-pub sensor_fields : (u : Setup) (s : List ℕ) → ruling_on u ≡ ruling.Accepted → fields_of u.identifier s ≡ contents_of (sensor_of u).row s
+pub sensor_fields : (u : Setup) (s : List ℕ) → ruling_on u ≡ Ok tt → fields_of u.identifier s ≡ contents_of (sensor_of u).row s
 sensor_fields u s ok = row_fields u.identifier s (sensor_row u ok)
 
 -- X, Y and Z are the first three fields

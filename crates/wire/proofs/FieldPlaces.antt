@@ -1,14 +1,15 @@
 -- The fields of a part by their places: those that the list of parts gives it are those that stand where it begins.
-use Prim.Native.Nat.{ℕ, zero, suc, ◌+◌, ◌*◌, ◌≤◌, ◌<◌}
+use Prim.Native.Nat.{ℕ, zero, suc, ◌+◌, ◌-◌, ◌≤◌, ◌<◌}
 use native.Mathlib.Nat.{add-zero}
 use native.Mathlib.Omega.{arith}
 use mathlib.Core.Bool.{Bool, true, false, cond}
-use mathlib.Core.List.{List, [], ◌∷◌}
+use mathlib.Core.List.{List, [], ◌∷◌, ◌++◌}
 use mathlib.Core.Path.{◌≡◌, refl, sym, ap, ◌∙◌}
 use lib.Dec.{eqb, ltb}
 use lib.IntN.{ℤ}
-use lib.ListN.{length, get_or, take, drop}
-use lib.Seq.{drop-cons}
+use lib.ListN.{length, get_or, take, drop, replicate, drop_of_length-le, get_or-eq_default}
+use native.Mathlib.Decide.{dec_lt}
+use lib.Seq.{drop-cons, take-nil}
 use borrow.Author.Tests.{lt-ltb}
 use Rattle.integers.specs.Bytes.{AllBytes, big_endian, signed_bytes}
 use Rattle.integers.proofs.Bytes.{bytes_nil, bytes_cons}
@@ -33,14 +34,28 @@ pub window_within : (n at : ℕ) (s : List ℕ) → at + n ≤ length s → wind
 window_within zero at s h = refl
 window_within (suc n) at s h = rw (drop-cons s at 0 (omega arith), window_within n (suc at) s (omega arith))
 
+-- one is what the list has from there, and zeros beyond its end
+pub window_padded : (n at : ℕ) (s : List ℕ) → window n at s ≡ take n (drop at s) ++ replicate (n - length (drop at s)) 0
+window_padded zero at s = let none : 0 - length (drop at s) ≡ 0 = omega arith in rw none
+window_padded (suc n) at s = by (dec_lt at (length s)) (window_padded n (suc at) s)
+  where
+    by : Dec (at < length s) → window n (suc at) s ≡ take n (drop (suc at) s) ++ replicate (n - length (drop (suc at) s)) 0
+        → window (suc n) at s ≡ take (suc n) (drop at s) ++ replicate (suc n - length (drop at s)) 0
+    by (yes l) rest =
+        let behind = drop (suc at) s in
+        let one_less : suc n - length (get_or s at 0 ∷ behind) ≡ n - length behind = omega arith in
+        rw (drop-cons s at 0 l, rest, one_less)
+    by (no l) rest =
+        let long : length s ≤ at = omega arith in
+        let longer : length s ≤ suc at = omega arith in
+        let gone : drop at s ≡ [] = drop_of_length-le s long in
+        let gone_after : drop (suc at) s ≡ [] = drop_of_length-le s longer in
+        let all : n - 0 ≡ n = omega arith in
+        let all_of_more : suc n - 0 ≡ suc n = omega arith in
+        rw (gone, rest, gone_after, take-nil n, get_or-eq_default s 0 long, all, all_of_more)
+
 pub two_bytes : (at : ℕ) (s : List ℕ) → window 2 at s ≡ get_or s at 0 ∷ get_or s (at + 1) 0 ∷ []
 two_bytes at s = let e : suc at ≡ at + 1 = omega arith in ap (λ k. get_or s at 0 ∷ get_or s k 0 ∷ []) e
-
-pub three_bytes : (at : ℕ) (s : List ℕ) → window 3 at s ≡ get_or s at 0 ∷ get_or s (at + 1) 0 ∷ get_or s (at + 2) 0 ∷ []
-three_bytes at s =
-    let e : suc at ≡ at + 1 = omega arith in
-    let f : suc (suc at) ≡ at + 2 = omega arith in
-    rw (← e, ← f)
 
 pub four_bytes : (at : ℕ) (s : List ℕ) → window 4 at s ≡ get_or s at 0 ∷ get_or s (at + 1) 0 ∷ get_or s (at + 2) 0 ∷ get_or s (at + 3) 0 ∷ []
 four_bytes at s =
@@ -77,9 +92,9 @@ fields_placed r s p e = rw (carried_place r p e) (by (carries (parts_of r) p))
 -- X, Y and Z of w bytes each
 pub axes_placed : (w at : ℕ) (s : List ℕ) → 0 < at
     → axes (fields_at (w ∷ w ∷ w ∷ 1 ∷ []) at s)
-    ≡ signed_bytes (window w at s) ∷ signed_bytes (window w (at + w) s) ∷ signed_bytes (window w (at + 2 * w) s) ∷ []
+    ≡ signed_bytes (window w at s) ∷ signed_bytes (window w (at + w) s) ∷ signed_bytes (window w (at + w + w) s) ∷ []
 unfolding fields_at
-axes_placed w at s h = let e : at + 2 * w ≡ at + w + w = omega arith in rw (lt-ltb 0 at h, e)
+axes_placed w at s h = rw (lt-ltb 0 at h)
 
 byte_at_place : (ws : List ℕ) (k at : ℕ) (s : List ℕ) → k < length ws → get_or ws k 0 ≡ 1
     → unsigned_field (fields_at ws at s) k ≡ byte_at (sum (take k ws)) at s

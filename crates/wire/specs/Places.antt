@@ -3,6 +3,8 @@ use Rattle.std.specs.Prelude.{ℕ, ◌+◌, cond, List, [], ◌∷◌, ◌++◌,
 use Rattle.setup.specs.Layout.{identifier, bytes, group_parts, temperature_parts}
 use Rattle.setup.specs.declared.Row.{Row}
 use Rattle.wire.specs.Fields.{cut}
+use Rattle.wire.specs.declared.Width.{Width}
+use Rattle.wire.specs.declared.Width.TheVariants.{Temperature, Reading}
 
 -- where the groups end, and where the temperature sets end
 unfoldable pub groups_end : Row → ℕ
@@ -10,6 +12,11 @@ groups_end r = bytes (identifier ∷ group_parts r)
 
 unfoldable pub temperatures_end : Row → ℕ
 temperatures_end r = bytes (identifier ∷ group_parts r ++ temperature_parts r)
+
+-- the bytes of a signed number
+abbrev pub size_of : Width → ℕ
+size_of Temperature = 2
+size_of Reading = 3
 
 -- the fields of a part; one that isn't carried has the place 0
 unfoldable pub fields_at : List ℕ → ℕ → List ℕ → List (List ℕ)

@@ -1,10 +1,10 @@
 #![tactic(auto)]
 // What stands in a datagram: its fields, their places and its length (01, Layout by identifier).
-ghost use Rattle.std.specs.Prelude.{◌≡◌, cond, [], ◌∷◌, map, ◌+◌, ◌≤◌, get_or};
-ghost use Rattle.integers.specs.Bytes.{big_endian, signed_bytes};
+ghost use Rattle.std.specs.Prelude.{◌≡◌, cond, [], ◌∷◌, map, ◌≤◌, drop};
+ghost use Rattle.integers.specs.Bytes.{signed_bytes};
 ghost use Rattle.setup.specs.Layout.{aux, counter, widths, bytes, parts_of, layout_of, length_in, placed};
 ghost use Rattle.wire.specs.Fields.{groups, temperature_sets, window, signed_field, axes, contents_of, besides_readings};
-ghost use Rattle.wire.specs.Places.{groups_end, temperatures_end, fields_at, byte_at, bytes_at};
+ghost use Rattle.wire.specs.Places.{groups_end, temperatures_end, fields_at, byte_at, bytes_at, size_of};
 
 use setup::Row;
 
@@ -24,32 +24,32 @@ pub struct Fields {
     pub latency: u16,
 }
 
-// Bytes of the identifier, a group, a temperature set, AUX, the counter, the latency, the check and the ending.
-const IDENTIFIER: usize = 1;
+// Bytes of the identifier, a group, a temperature set, AUX, the counter, the latency, the check and the ending. No place is above 255.
+const IDENTIFIER: u8 = 1;
 
-const GROUP: usize = 10;
+const GROUP: u8 = 10;
 
-const TEMPERATURES: usize = 7;
+const TEMPERATURES: u8 = 7;
 
-const AUX: usize = 4;
+const AUX: u8 = 4;
 
-const COUNTER: usize = 1;
+const COUNTER: u8 = 1;
 
-const LATENCY: usize = 2;
+const LATENCY: u8 = 2;
 
-const CHECK: usize = 4;
+const CHECK: u8 = 4;
 
-const ENDING: usize = 2;
+const ENDING: u8 = 2;
 
-// A place or a size, 0 for what isn't carried.
-fn if_carried(carried: bool, bytes: usize) -> usize
+// A place or a size, 0 for what isn't carried, as the rules' `placed` has it.
+fn if_carried(carried: bool, bytes: u8) -> u8
     ensures { (result ≡ cond carried bytes 0) × (result ≤ bytes) }
 {
     if carried { bytes } else { 0 }
 }
 
 // Where the groups begin.
-fn group_places(row: Row) -> [usize; 3]
+fn group_places(row: Row) -> [u8; 3]
     ensures { result ≡ map (placed (parts_of row)) groups }
 {
     let second = IDENTIFIER + GROUP;
@@ -62,14 +62,14 @@ fn group_places(row: Row) -> [usize; 3]
 }
 
 // Where the groups end.
-fn groups_end(row: Row) -> usize
+fn groups_end(row: Row) -> u8
     ensures { result ≡ groups_end row }
 {
     IDENTIFIER + GROUP + if_carried(row.acceleration, GROUP) + if_carried(row.inclination, GROUP)
 }
 
 // Where the temperature sets begin.
-fn temperature_places(row: Row) -> [usize; 3]
+fn temperature_places(row: Row) -> [u8; 3]
     ensures { result ≡ map (placed (parts_of row)) temperature_sets }
 {
     let first = groups_end(row);
@@ -83,7 +83,7 @@ fn temperature_places(row: Row) -> [usize; 3]
 }
 
 // Where the temperature sets end.
-fn temperatures_end(row: Row) -> usize
+fn temperatures_end(row: Row) -> u8
     ensures { result ≡ temperatures_end row }
 {
     let sets = TEMPERATURES
@@ -92,13 +92,13 @@ fn temperatures_end(row: Row) -> usize
     groups_end(row) + if_carried(row.temperatures, sets)
 }
 
-fn aux_place(row: Row) -> usize
+fn aux_place(row: Row) -> u8
     ensures { result ≡ placed (parts_of row) aux }
 {
     if_carried(row.aux, temperatures_end(row))
 }
 
-fn counter_place(row: Row) -> usize
+fn counter_place(row: Row) -> u8
     ensures { result ≡ placed (parts_of row) counter }
 {
     temperatures_end(row) + if_carried(row.aux, AUX)
@@ -108,121 +108,110 @@ fn counter_place(row: Row) -> usize
 pub fn check_place(row: Row) -> usize
     ensures { result ≡ bytes (parts_of row) }
 {
-    counter_place(row) + COUNTER + LATENCY
+    (counter_place(row) + COUNTER + LATENCY) as usize
 }
 
 // The length L of a datagram.
 pub fn length_of(row: Row, terminated: bool) -> usize
     ensures { result ≡ length_in (layout_of row terminated) }
 {
-    check_place(row) + CHECK + if_carried(terminated, ENDING)
+    check_place(row) + (CHECK + if_carried(terminated, ENDING)) as usize
 }
 
-// Three bytes of a reading. Where they are all there, one test is enough; bytes beyond the end read as 0. A place is 255 at most, so that
-// no sum wraps.
-fn reading_at(s: &[u8], at: usize) -> i32
-    requires { at ≤ 255 }
-    ensures { result ≡ signed_bytes (window 3 at s.now) }
+// The bytes from a place on.
+fn bytes_from(s: &[u8], at: usize) -> &[u8]
+    ensures { result.now ≡ drop at s.now }
 {
-    if at + 2 < s.len() {
-        integers::reading_of(s[at], s[at + 1], s[at + 2])
-    } else {
-        integers::reading_of(
-            integers::byte_or_zero(s, at),
-            integers::byte_or_zero(s, at + 1),
-            integers::byte_or_zero(s, at + 2),
-        )
+    s.get(at..).unwrap_or(&[])
+}
+
+// N bytes from a place on; bytes beyond the end read as 0.
+fn window<const N: usize>(s: &[u8], at: usize) -> [u8; N]
+    ensures { result ≡ window N at s.now }
+{
+    let rest = bytes_from(s, at);
+    match rest.first_chunk::<N>() {
+        Some(bytes) => *bytes,
+        None => {
+            let mut bytes = [0; N];
+            bytes[..rest.len()].copy_from_slice(rest);
+            bytes
+        }
     }
 }
 
-fn temperature_at(s: &[u8], at: usize) -> i32
-    requires { at ≤ 255 }
-    ensures { result ≡ signed_bytes (window 2 at s.now) }
+// How many bytes a signed number has: two, or three, as AUX too.
+#[derive(Clone, Copy)]
+enum Width {
+    Temperature,
+    Reading,
+}
+
+fn size_of(width: Width) -> u8
+    ensures { result ≡ size_of width }
 {
-    if at + 1 < s.len() {
-        integers::temperature_of(s[at], s[at + 1])
-    } else {
-        integers::temperature_of(
-            integers::byte_or_zero(s, at),
-            integers::byte_or_zero(s, at + 1),
-        )
+    match width {
+        Width::Temperature => 2,
+        Width::Reading => 3,
     }
 }
 
-fn latency_at(s: &[u8], at: usize) -> u16
-    requires { at ≤ 255 }
-    ensures { result ≡ big_endian (window 2 at s.now) }
+fn signed_at(s: &[u8], at: usize, width: Width) -> i32
+    ensures { result ≡ signed_bytes (window (size_of width) at s.now) }
 {
-    if at + 1 < s.len() {
-        integers::unsigned_of(s[at], s[at + 1])
-    } else {
-        integers::unsigned_of(
-            integers::byte_or_zero(s, at),
-            integers::byte_or_zero(s, at + 1),
-        )
-    }
-}
-
-// A signed number of 2 or 3 bytes.
-fn signed_at(s: &[u8], at: usize, width: usize) -> i32
-    requires at_bound { at ≤ 255 }
-    requires le_width { (2 ≤ width) × (width ≤ 3) }
-    ensures { result ≡ signed_bytes (window width at s.now) }
-{
-    if width == 2 {
-        temperature_at(s, at)
-    } else {
-        reading_at(s, at)
+    match width {
+        Width::Temperature => {
+            let [first, second] = window::<2>(s, at);
+            integers::temperature_of(first, second)
+        }
+        Width::Reading => {
+            let [first, second, third] = window::<3>(s, at);
+            integers::reading_of(first, second, third)
+        }
     }
 }
 
 // X, Y, Z of a group, or of a temperature set, at its place; 0 for one that isn't carried, whose place is 0.
-fn axes_at(s: &[u8], place: usize, width: usize) -> [i32; 3]
-    requires place_bound { place ≤ 59 }
-    requires le_width { (2 ≤ width) × (width ≤ 3) }
-    ensures { result ≡ axes (fields_at (width ∷ width ∷ width ∷ 1 ∷ []) place s.now) }
+fn axes_at(s: &[u8], place: u8, width: Width) -> [i32; 3]
+    ensures { result ≡ axes (fields_at (size_of width ∷ size_of width ∷ size_of width ∷ 1 ∷ []) place s.now) }
 {
     if place == 0 {
         return [0, 0, 0];
     }
+    let size = size_of(width) as usize;
+    let x = place as usize;
+    let y = x + size;
+    let z = y + size;
     [
-        signed_at(s, place, width),
-        signed_at(s, place + width, width),
-        signed_at(s, place + 2 * width, width),
+        signed_at(s, x, width),
+        signed_at(s, y, width),
+        signed_at(s, z, width),
     ]
 }
 
-fn aux_at(s: &[u8], place: usize) -> i32
-    requires { place ≤ 59 }
+fn aux_at(s: &[u8], place: u8) -> i32
     ensures { result ≡ signed_field (fields_at (widths aux) place s.now) 0 }
 {
     if place == 0 {
         return 0;
     }
-    reading_at(s, place)
+    signed_at(s, place as usize, Width::Reading)
 }
 
 // The byte `skipped` bytes into a part; 0 for one that isn't carried.
-fn byte_at(s: &[u8], place: usize, skipped: usize) -> u8
-    requires { (place ≤ 59) × (skipped ≤ 10) }
+fn byte_at(s: &[u8], place: u8, skipped: u8) -> u8
     ensures { result ≡ byte_at skipped place s.now }
 {
     if place == 0 {
         return 0;
     }
-    integers::byte_or_zero(s, place + skipped)
+    integers::byte_or_zero(s, place as usize + skipped as usize)
 }
 
-fn bytes_at(s: &[u8], places: [usize; 3], skipped: usize) -> [u8; 3]
-    requires places_bound { (get_or places 0 0 ≤ 59) × (get_or places 1 0 ≤ 59) × (get_or places 2 0 ≤ 59) }
-    requires skipped_bound { skipped ≤ 10 }
+fn bytes_at(s: &[u8], places: [u8; 3], skipped: u8) -> [u8; 3]
     ensures { result ≡ bytes_at skipped places s.now }
 {
-    [
-        byte_at(s, places[0], skipped),
-        byte_at(s, places[1], skipped),
-        byte_at(s, places[2], skipped),
-    ]
+    places.map(|place| byte_at(s, place, skipped))
 }
 
 // The readings, three groups by three axes.
@@ -231,9 +220,9 @@ pub fn readings(row: Row, s: &[u8]) -> [[i32; 3]; 3]
 {
     let places = group_places(row);
     [
-        axes_at(s, places[0], 3),
-        axes_at(s, places[1], 3),
-        axes_at(s, places[2], 3),
+        axes_at(s, places[0], Width::Reading),
+        axes_at(s, places[1], Width::Reading),
+        axes_at(s, places[2], Width::Reading),
     ]
 }
 
@@ -254,7 +243,8 @@ pub fn counter(row: Row, s: &[u8]) -> u8
 pub fn latency(row: Row, s: &[u8]) -> u16
     ensures { result ≡ (contents_of row s.now).latency }
 {
-    latency_at(s, counter_place(row) + COUNTER)
+    let [first, second] = window::<2>(s, (counter_place(row) + COUNTER) as usize);
+    integers::unsigned_of(first, second)
 }
 
 // All fields but the readings.
@@ -265,9 +255,9 @@ pub fn fields_of(row: Row, s: &[u8]) -> Fields
     let aux = aux_place(row);
     Fields {
         statuses: statuses(row, s),
-        gyro_temperatures: axes_at(s, places[0], 2),
-        accelerometer_temperatures: axes_at(s, places[1], 2),
-        inclinometer_temperatures: axes_at(s, places[2], 2),
+        gyro_temperatures: axes_at(s, places[0], Width::Temperature),
+        accelerometer_temperatures: axes_at(s, places[1], Width::Temperature),
+        inclinometer_temperatures: axes_at(s, places[2], Width::Temperature),
         temperature_statuses: bytes_at(s, places, TEMPERATURES - 1),
         aux: aux_at(s, aux),
         aux_status: byte_at(s, aux, AUX - 1),

@@ -1,32 +1,21 @@
 -- `admission::zeros_behind` meets its contract. Assumes nothing.
-use Prim.Native.Nat.{ℕ, ◌+◌, ◌≤◌, ◌<◌}
-use mathlib.Core.Path.{◌≡◌, sym, ap, ◌∙◌}
-use mathlib.Core.List.{List}
-use mathlib.Core.Bool.{true, ◌&&◌}
+use mathlib.Core.Path.{◌≡◌, ◌∙◌}
 use native.Mathlib.Omega.{arith}
-use native.Mathlib.Numerals.{add-one}
+use Prim.Native.Nat.{◌-◌}
 use lib.Dec.{eqb}
-use lib.ListN.{length, drop, get_or, drop_of_length-le}
-use lib.Seq.{drop-cons}
-use borrow.Author.Tests.{eq-eqb, ne_eqb}
-use Rattle.admission.specs.Admission.{all_zero}
+use lib.ListN.{length, drop, length-drop}
+use lib.Seq.{take_all}
+use Rattle.std.proofs.Common.{rules, tests}
+use Rattle.std.proofs.lemmas.Iterator.{YieldsList-from_slice}
+use Rattle.std.proofs.lemmas.Iterator.Search.{all_from_yields_List}
+use Rattle.admission.proofs.TenLaws.{zeros_each}
 use Rattle.admission.proofs.zeros_behind.Goals as goal
 
--- one byte more
-next : (b : List ℕ) (i : ℕ) → i < length b → all_zero (drop i b) ≡ (eqb (get_or b i 0) 0 && all_zero (drop (i + 1) b))
-unfolding all_zero
-next b i h = rw (add-one, drop-cons b i 0)
-
--- nothing is left
-none : (b : List ℕ) (i : ℕ) → length b ≤ i → all_zero (drop i b) ≡ true
-unfolding all_zero
-none b i h = ap all_zero (drop_of_length-le b {i = i} h)
-
-pub returns-then-bytes-i-ne0 : goal.returns-then-bytes-i-ne0
-returns-then-bytes-i-ne0 c = sym (c.loop-i.invariant.2 ∙ next c.args.bytes c.loop-i.i (omega arith) ∙ ap (λ t. t && all_zero (drop (c.loop-i.i + 1) c.args.bytes)) (ne_eqb _ _ c.if-bytes-i-ne0.true))
-
-pub loop-i-preserved : goal.loop-i-preserved
-loop-i-preserved c = (omega arith, c.loop-i.invariant.1, c.loop-i.invariant.2 ∙ next c.args.bytes c.loop-i.i (omega arith) ∙ ap (λ t. t && all_zero (drop (c.loop-i.i + 1) c.args.bytes)) (eq-eqb _ _ c.if-bytes-i-ne0.false))
-
 pub returns : goal.returns
-returns c = sym (c.loop-i.invariant.2 ∙ none c.args.bytes c.loop-i.i (omega arith))
+returns c =
+    let s = c.args in
+    let rest = drop s.place s.bytes in
+    let long : length s.bytes ≡ 64 = search rules in
+    let shown = take_all (64 - s.place) rest (omega (arith, length-drop s.place s.bytes)) in
+    rw (zeros_each rest)
+    (all_from_yields_List (λ b. eqb b 0) _ _ _ c.all.ensures.ran (YieldsList-from_slice rest (c.iter.ensures.rest ∙ shown)) (λ x b q k. search (rules, tests)))

@@ -6,6 +6,5 @@ use Rattle.crc.proofs.word_shifts.Goals as goal
 
 pub returns : goal.returns
 returns c =
-    let start = c in
     rw (c.lowest_byte.ensures, c.lowest_byte-2.ensures, c.lowest_byte-3.ensures, c.lowest_byte-4.ensures)
-    (sym (four_lookups start.args.c start.ranges.c.fits))
+    (sym (four_lookups c.args.c c.ranges.c.fits))

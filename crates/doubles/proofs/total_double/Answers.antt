@@ -1,4 +1,3 @@
--- `doubles::total_double` meets its contract. Assumes nothing.
 use Prim.Native.Nat.{◌^◌}
 use mathlib.Core.Path.{sym, ◌∙◌}
 use native.Mathlib.Omega.{arith}
@@ -10,18 +9,14 @@ use Rattle.integers.specs.Ranges.{within}
 use Rattle.integers.proofs.Ranges.{within_true}
 use Rattle.integers.proofs.Signed.{passed}
 use Rattle.doubles.specs.Doubles.{total_double}
-use Rattle.doubles.proofs.Doubles.{shift_small}
 use Rattle.doubles.proofs.total_double.Goals as goal
 
-pub steps_double-requires : goal.steps_double-requires
-steps_double-requires c =
+pub over_power-requires : goal.over_power-requires
+over_power-requires c =
     let z = c.args.axis.total in
     let f : SFits w64 z = record { sfits = omega arith } in
     let told = passed w64 (within (2 ^ 53)) z f c.fits_total.ensures in
-    record {
-      steps_small = rw (to_z-of_z w64 z f) (within_true (2 ^ 53) z (sym told ∙ c.if-fits_total.true));
-      shift_small = rw c.known_shift-k.ensures (shift_small c.args.shift);
-    }
+    rw (to_z-of_z w64 z f) (within_true (2 ^ 53) z (sym told ∙ c.if-fits_total.true))
 
 pub returns-then-fits_total : goal.returns-then-fits_total
 unfolding total_double
@@ -29,17 +24,11 @@ returns-then-fits_total c =
     let z = c.args.axis.total in
     let f : SFits w64 z = record { sfits = omega arith } in
     let told = passed w64 (within (2 ^ 53)) z f c.fits_total.ensures in
-    rw (
-      ← told,
-      c.if-fits_total.true,
-      c.steps_double.ensures,
-      c.known_shift-k.ensures,
-      to_z-of_z w64 z f,
-    )
+    rw (← told, c.if-fits_total.true, c.over_power.ensures, to_z-of_z w64 z f)
 
-pub returns : goal.returns
+pub returns-else-fits_total : goal.returns-else-fits_total
 unfolding total_double of_bits
-returns c =
+returns-else-fits_total c =
     let z = c.args.axis.total in
     let f : SFits w64 z = record { sfits = omega arith } in
     let told = passed w64 (within (2 ^ 53)) z f c.fits_total.ensures in

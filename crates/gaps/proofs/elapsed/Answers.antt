@@ -6,7 +6,6 @@ use native.Mathlib.Omega.{arith}
 use borrow.Author.Tests.{eq-eqb, ne_eqb}
 use Rattle.gaps.specs.Gaps.{samples}
 use Rattle.gaps.proofs.Gaps.{elapsed_code}
-use borrow.Author.Rules.{rules}
 use Rattle.gaps.proofs.elapsed.Goals as goal
 
 pub returns-then-d-eq0 : goal.returns-then-d-eq0

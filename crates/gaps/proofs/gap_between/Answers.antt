@@ -9,7 +9,6 @@ use Rattle.setup.specs.declared.Rate.{Rate}
 use Rattle.gaps.specs.declared.Gap.{Gap}
 use Rattle.gaps.specs.Gaps.{samples, step_at, gap_with, missed_after, missed_at, gap_between}
 use Rattle.gaps.proofs.Gaps.{elapsed_range}
-use borrow.Author.Rules.{rules}
 use Rattle.gaps.proofs.gap_between.Goals as goal
 use Rattle.gaps.proofs.gap_between.Goals.{After-elapsed-gone}
 

@@ -1,10 +1,6 @@
 -- `gaps::missed` meets its contract. Assumes nothing.
 use borrow.Author.Tests.{eq-eqb, ne_eqb}
-use native.Mathlib.Nat.{div-le_self}
-use native.Mathlib.Omega.{arith}
 use Rattle.gaps.specs.Gaps.{missed_after}
-use Rattle.gaps.proofs.Gaps.{quotient_positive}
-use borrow.Author.Rules.{rules}
 use Rattle.gaps.proofs.missed.Goals as goal
 
 pub returns-then-d-s-eq0 : goal.returns-then-d-s-eq0

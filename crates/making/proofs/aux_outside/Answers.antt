@@ -8,7 +8,7 @@ use Rattle.making.proofs.aux_outside.Goals as goal
 
 pub returns-then-carried : goal.returns-then-carried
 returns-then-carried c = let s = c in
-    aux_fit s.args.value s.args.status c.if-carried.true (passed w32 (λ (z : ℤ). fits signed 3 z) s.args.value s.ranges.value c.fits_axis.ensures)
+    aux_fit s.args.value s.args.status c.if-carried.true (passed w32 (λ (z : ℤ). fits signed 3 z) s.args.value s.ranges.value c.fits_reading.ensures)
     (passed w32 (λ (z : ℤ). fits unsigned 1 z) s.args.status s.ranges.status c.fits_byte.ensures)
 
 pub returns : goal.returns

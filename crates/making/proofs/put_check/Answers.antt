@@ -1,5 +1,12 @@
-use Rattle.making.proofs.ValueWriting.{put_check_bytes}
+use native.Mathlib.Omega.{arith}
+use mathlib.Core.Path.{sym, ◌∙◌}
+use Rattle.integers.proofs.Values.{in_bytes_length}
+use Rattle.making.proofs.ValueWriting.{put_copied, four_in_bytes}
 use Rattle.making.proofs.put_check.Goals as goal
 
 pub returns : goal.returns
-returns c = put_check_bytes c.crc32-check.ensures
+returns c =
+    let n = c.crc32-check.result in
+    let long = in_bytes_length 4 n in
+    rw (← c.crc32-check.ensures)
+    (put_copied (omega (arith, c.requires, long)) (sym long) (c.copy_from_slice.ensures.after ∙ c.to_be_bytes.ensures ∙ four_in_bytes n))

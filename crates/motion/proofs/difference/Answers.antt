@@ -24,18 +24,16 @@ old_above c =
 pub returns-then-d-lt8388608 : goal.returns-then-d-lt8388608
 unfolding difference
 returns-then-d-lt8388608 c =
-    let d = c in
-    let a = d.args in
-    let r = d.wrapping_sub_u32-d.result in
+    let a = c.args in
+    let r = c.wrapping_sub_u32-d.result in
     to_z_pos w32 _ (omega arith)
     ∙ wrapped_low a.new a.old 2147483648 _ _ r _ (new_above (goal.at.returns-then-d-lt8388608 c).After-above_least) (old_above (goal.at.returns-then-d-lt8388608 c).After-above_least-2) (wrapped (goal.at.returns-then-d-lt8388608 c).After-wrapping_sub_u32-d) (omega arith)
 
 pub returns-else-d-lt8388608 : goal.returns-else-d-lt8388608
 unfolding difference
 returns-else-d-lt8388608 c =
-    let d = c in
-    let a = d.args in
-    let r = d.wrapping_sub_u32-d.result in
+    let a = c.args in
+    let r = c.wrapping_sub_u32-d.result in
     let f : SFits w32 (pos (r % 16777216) -ℤ pos 16777216) = record { sfits = omega (arith, wrapped_fits r) } in
     rw (to_z_pos w32 (r % 16777216) (omega arith))
     (to_z-of_z w32 (pos (r % 16777216) -ℤ pos 16777216) f

@@ -52,9 +52,8 @@ summed c =
 pub returns-then-begun : goal.returns-then-begun
 unfolding fit_step
 returns-then-begun c =
-    let s = c in
-    rw (to_z-of_z w32 s.args.reading s.ranges.reading)
-    (ap (λ (z : ℤ). record { begun = true; last = s.args.reading; total = z }) (summed (goal.at.returns-then-begun c).After-difference))
+    rw (to_z-of_z w32 c.args.reading c.ranges.reading)
+    (ap (λ (z : ℤ). record { begun = true; last = c.args.reading; total = z }) (summed (goal.at.returns-then-begun c).After-difference))
 
 pub returns-else-begun : goal.returns-else-begun
 unfolding fit_step

@@ -1,21 +1,21 @@
-use mathlib.Core.Path.{ap}
-use mathlib.Core.List.{[], ◌∷◌}
-use Prim.Native.Nat.{◌+◌, ◌/◌, ◌%◌}
+use Prim.Native.Nat.{ℕ, zero, suc, ◌^◌, ◌<◌, max}
+use mathlib.Core.Path.{◌≡◌, sym, ap, ◌∙◌}
+use native.Mathlib.Nat.{pow-suc}
 use native.Mathlib.Omega.{arith}
-use lib.ListN.{length, length-append}
+use lib.ListN.{length}
 use Rattle.shown_line.specs.Decimal.{digits}
-use Rattle.shown_line.proofs.Digits.{digits_small, digits_large, digits_some, digits_at_most}
+use Rattle.shown_line.proofs.Digits.{digits_small, digits_at_most, digits_at_least}
 use Rattle.printing.proofs.digit_count.Goals as goal
 
-pub overflow_add-count : goal.overflow_add-count
-overflow_add-count c =
-    let n = c.args.n in
-    omega (arith, digits_some c.loop-left.left, digits_at_most 19 n (omega arith))
-
-pub loop-left-preserved : goal.loop-left-preserved
-loop-left-preserved c =
-    let left = c.loop-left.left in
-    omega (arith, ap length (digits_large left (omega arith)), length-append (digits (left / 10)) ((0x30 + left % 10) ∷ []))
+-- 0 has as many digits as 1
+of_one : (n : ℕ) → length (digits (max n 1)) ≡ length (digits n)
+of_one zero = ap length (digits_small 1 (omega arith)) ∙ sym (ap length (digits_small 0 (omega arith)))
+of_one (suc n) = ap (λ (m : ℕ). length (digits m)) (omega arith)
 
 pub returns : goal.returns
-returns c = omega (arith, ap length (digits_small c.loop-left.left (omega arith)))
+returns c =
+    let n = c.args.n in
+    let k = c.ilog10.result in
+    let log = c.ilog10.ensures in
+    let below : max n 1 < 10 ^ suc k = omega (arith, pow-suc 10 k) in
+    omega (arith, of_one n, digits_at_most k (max n 1) below, digits_at_least k (max n 1) (omega arith))

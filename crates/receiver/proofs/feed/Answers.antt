@@ -6,16 +6,16 @@ use Rattle.feeding.specs.Feed.{refusal}
 use Rattle.feeding.proofs.CallParts.{fed_refused}
 use Rattle.receiver.proofs.feed.Goals as goal
 
-pub scan_piece-requires : goal.scan_piece-requires
-scan_piece-requires c =
+pub invariant_of-call : goal.invariant_of-call
+invariant_of-call c =
     let a = c.args in
-    let told = admission_sensor_lem a.session (length a.piece.now) (sym c.in-Admitted.ensures) in
-    (admits a.session (length a.piece.now) told.0, told.1)
+    let told = admission_sensor_lem a.session (length a.piece.now) (sym c.in-Ok.ensures) in
+    record { admitted = admits a.session (length a.piece.now) told.0; described = told.1 }
 
-pub returns-in-Refused : goal.returns-in-Refused
-returns-in-Refused c =
+pub returns-in-Err : goal.returns-in-Err
+returns-in-Err c =
     let a = c.args in
-    let refused : c.refuse.result ≡ refusal a.session c.in-Refused.number = c.refuse.ensures in
+    let refused : c.refuse.result ≡ refusal a.session c.in-Err.refused = c.refuse.ensures in
     refused
     ∙ sym (fed_refused a.session a.piece.now
-    (admission_number_lem a.session (length a.piece.now) (sym c.in-Refused.ensures)))
+    (admission_number_lem a.session (length a.piece.now) (sym c.in-Err.ensures)))

@@ -1,27 +1,20 @@
-use Prim.Native.Nat.{ℕ, ◌<◌}
-use Rattle.integers.proofs.Parts.{parts_ext, sub_parts, neg_pos_part, neg_neg_part}
-use Rattle.integers.proofs.Signed.{sfits_of_parts, read_back}
-use Rattle.rehearsal.proofs.Nearest.{negative_low, negative_high}
-use lib.IntN.{ℤ, pos, neg_ℤ, ◌-ℤ◌}
+use Prim.Native.Nat.{ℕ}
+use Rattle.integers.proofs.Signed.{kept}
+use Rattle.rehearsal.proofs.Nearest.{negative_low, negative_high, not_held}
+use Rattle.rehearsal.specs.RehearsalLine.{nearest}
+use Rattle.std.proofs.Common.{rules}
+use Rattle.std.specs.Prelude.{Result, Ok, Err}
+use Rattle.std.specs.Result.{OkIff, MatchResult}
+use lib.IntN.{ℤ, pos, negsuc, neg_ℤ}
 use mathlib.Core.Path.{◌≡◌, sym, ap, ◌∙◌}
 use mir.Syntax.{w32}
-use mir.Val.{SFits, to_z}
-use mir.ValLaws.{to_z_pos}
-use native.Mathlib.Omega.{arith}
+use mir.Val.{SFits}
 use Rattle.rehearsal.proofs.nearest_negative.Goals as goal
 
--- a size that 31 bits hold, turned round
-turned : (n : ℕ) → n < 2147483648 → pos 0 -ℤ to_z w32 n ≡ neg_ℤ (pos n)
-turned n h =
-    ap (λ (z : ℤ). pos 0 -ℤ z) (to_z_pos w32 n h)
-    ∙ parts_ext (pos 0 -ℤ pos n) (neg_ℤ (pos n)) (omega (arith, sub_parts (pos 0) (pos n), neg_pos_part (pos n), neg_neg_part (pos n)))
+-- a size that is held, turned round, or the least number
+held : {E : Type 0} {P : ℤ → Type 0} (n : ℕ) (z : ℤ) (tried : Result ℤ E) → ((x : ℤ) → P x → SFits w32 (pos n) → x ≡ pos n → z ≡ neg_ℤ x) → OkIff tried (SFits w32 (pos n)) (pos n) → MatchResult tried P (λ e. z ≡ negsuc 2147483647) → z ≡ nearest (neg_ℤ (pos n))
+held n z (Ok x) turns t p = turns x p t.0 t.1 ∙ ap neg_ℤ t.1 ∙ sym (negative_low n t.0.sfits)
+held n z (Err e) turns t p = p ∙ sym (negative_high n (not_held n t))
 
-turned_fits : (n : ℕ) → n < 2147483648 → SFits w32 (neg_ℤ (pos n))
-turned_fits n h = sfits_of_parts w32 (neg_ℤ (pos n)) (omega (arith, neg_pos_part (pos n))) (omega (arith, neg_neg_part (pos n)))
-
-pub returns-then-size-lt2147483648 : goal.returns-then-size-lt2147483648
-returns-then-size-lt2147483648 c =
-    read_back w32 (turned c.args.size c.if-size-lt2147483648.true) (turned_fits c.args.size c.if-size-lt2147483648.true) ∙ sym (negative_low c.args.size c.if-size-lt2147483648.true)
-
-pub returns-else-size-lt2147483648 : goal.returns-else-size-lt2147483648
-returns-else-size-lt2147483648 c = sym (negative_high c.args.size c.if-size-lt2147483648.false)
+pub returns : goal.returns
+returns c = kept w32 c.map_or.type_inv (held c.args.size c.map_or.result c.try_from.result (λ x p f e. search rules) c.try_from.ensures c.map_or.ensures)

@@ -23,13 +23,15 @@ use Rattle.search.specs.declared.Place.TheVariants.{Complete, Undecided}
 use Rattle.scan.specs.Rules.{Rules}
 use Rattle.scan.specs.OneLength.{one_length}
 use Rattle.search.specs.Search.{is_datagram_in, size_in, verdict_in, place_of}
-use Rattle.search.proofs.Others.{index_within, passes_onward}
+use Rattle.byte_slices.proofs.ByteSlices.{index_within}
+use Rattle.search.proofs.Others.{passes_onward}
 use Rattle.search.proofs.Sensors.{bytes_sensor}
 use Rattle.search.proofs.find.Goals as goal
+use Rattle.refusals.specs.declared.Refusal.TheVariants.{PieceTooLong}
 
 -- the rules by which a sensor's datagrams are searched
 abbrev rules_in : Sensor → Rules
-rules_in s = one_length s.identifier (size_in s) (is_datagram_in s) (record { piece = 0; too_long = 0; session = 0 })
+rules_in s = one_length s.identifier (size_in s) (is_datagram_in s) (record { piece = 0; too_long = PieceTooLong; session = 0 })
 
 -- the test of the bytes from i up to i + size is the test of a datagram
 tested :

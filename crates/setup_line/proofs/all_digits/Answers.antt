@@ -1,15 +1,11 @@
-use mathlib.Core.Path.{sym, ◌∙◌}
-use native.Mathlib.Omega.{arith}
-use Rattle.setup_line.proofs.Digits.{digits_more, digits_stop, digits_end}
+use Rattle.std.proofs.Common.{rules, tests}
+use Rattle.std.proofs.lemmas.Iterator.{YieldsList-from_slice}
+use Rattle.std.proofs.lemmas.Iterator.Search.{all_from_yields_List}
+use Rattle.setup_line.specs.SetupLine.{is_digit}
+use Rattle.setup_line.proofs.Digits.{digits_each}
 use Rattle.setup_line.proofs.all_digits.Goals as goal
 
-pub returns-then-not-is_digit : goal.returns-then-not-is_digit
-returns-then-not-is_digit c =
-    sym (sym c.loop-i.invariant.1 ∙ digits_stop c.args.text.now c.loop-i.i c.loop-i-test.true (sym c.is_digit.ensures ∙ c.if-not-is_digit.true))
-
-pub loop-i-preserved : goal.loop-i-preserved
-loop-i-preserved c =
-    (omega arith, sym (digits_more c.args.text.now c.loop-i.i c.loop-i-test.true (sym c.is_digit.ensures ∙ c.if-not-is_digit.false)) ∙ c.loop-i.invariant.1)
-
 pub returns : goal.returns
-returns c = sym (digits_end c.args.text.now c.loop-i.i c.loop-i-test.false) ∙ c.loop-i.invariant.1
+returns c =
+    rw (digits_each c.args.text.now)
+    (all_from_yields_List is_digit _ _ _ c.all.ensures.ran (YieldsList-from_slice c.args.text.now (cc)) (λ x b q k. search (rules, tests)))

@@ -1,24 +1,23 @@
-use mathlib.Core.Path.{sym, ap, ◌∙◌}
-use native.Mathlib.Omega.{arith}
-use lib.ListN.{drop}
-use Rattle.setup_line.specs.SetupLine.{field_at}
-use Rattle.setup_line.proofs.Fields.{end_inside, field_here, field_next, field_none}
+use denote.Ref.{Bor}
+use mathlib.Core.List.{List, []}
+use mathlib.Core.Path.{◌≡◌, refl, ap, ◌∙◌}
+use Prim.Native.Nat.{ℕ}
+use Rattle.std.specs.Prelude.{Option, Some, None}
+use Rattle.std.specs.Option.{option_map, unwrap_or}
+use Rattle.std.proofs.Common.{rules, tests, eqb}
+use Rattle.std.proofs.lemmas.Iterator.Consumers.{nth_from_yields_List}
+use Rattle.std.proofs.lemmas.Iterator.Splits.{YieldsList-from_slice_split}
+use Rattle.setup_line.proofs.Fields.{field_part}
 use Rattle.setup_line.proofs.field.Goals as goal
 
-pub slice_bounds-result-count : goal.slice_bounds-result-count
-slice_bounds-result-count c = omega (arith, end_inside c.args.line.now c.loop-left.at c.field_end-end.result c.loop-left.invariant.0 c.field_end-end.ensures)
-
-pub slice_bounds-result-start : goal.slice_bounds-result-start
-slice_bounds-result-start c = omega (arith, end_inside c.args.line.now c.loop-left.at c.field_end-end.result c.loop-left.invariant.0 c.field_end-end.ensures)
-
-pub returns-then-line-end : goal.returns-then-line-end
-returns-then-line-end c = field_none c.args.line.now c.loop-left.at c.field_end-end.result c.loop-left.invariant.0 c.field_end-end.ensures c.if-line-end.true c.loop-left.left c.loop-left-test.true ∙ c.loop-left.invariant.1
-
-pub loop-left-preserved : goal.loop-left-preserved
-loop-left-preserved c = (omega arith, sym (field_next c.args.line.now c.loop-left.at c.field_end-end.result c.loop-left.invariant.0 c.field_end-end.ensures c.if-line-end.false c.loop-left.left c.loop-left-test.true) ∙ c.loop-left.invariant.1)
-
-pub slice_bounds-result-end-2 : goal.slice_bounds-result-end-2
-slice_bounds-result-end-2 c = omega (arith, end_inside c.args.line.now c.loop-left.at c.field_end-end-2.result c.loop-left.invariant.0 c.field_end-end-2.ensures)
+-- what the reference shows, or the other
+shown : (o : Option (Bor (List ℕ))) (other : Bor (List ℕ)) → (unwrap_or o other).now ≡ unwrap_or (option_map (λ x. x.now) o) other.now
+shown None other = refl
+shown (Some x) other = refl
 
 pub returns : goal.returns
-returns c = field_here c.args.line.now c.loop-left.at c.field_end-end-2.result c.loop-left.invariant.0 c.field_end-end-2.ensures ∙ ap (λ k. field_at (drop c.loop-left.at c.args.line.now) k) (omega arith) ∙ c.loop-left.invariant.1
+returns c =
+    let line = c.args.line.now in
+    let part = nth_from_yields_List c.nth.result c.nth.new.self c.args.k c.nth.ensures.ran
+    (YieldsList-from_slice_split _ (λ b. eqb b 0x2C) line c.split.ensures.rest c.split.ensures.done c.split.ensures.closure (λ x r q k. search (rules, tests))) in
+    ap (λ x. x.now) c.unwrap_or.ensures ∙ shown c.nth.result _ ∙ ap (λ o. unwrap_or o []) part ∙ field_part line c.args.k

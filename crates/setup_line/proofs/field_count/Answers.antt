@@ -1,13 +1,11 @@
-use native.Mathlib.Omega.{arith}
-use Rattle.setup_line.proofs.field_count.Goals.{then-line-i-eq44, else-line-i-eq44}
-use Rattle.setup_line.proofs.Fields.{count_comma, count_other, count_end}
+use mathlib.Core.Path.{◌≡◌}
+use Rattle.std.proofs.Common.{rules, arith, eqb}
+use Rattle.std.specs.List.{count_by}
+use Rattle.std.proofs.iter.runs.Made.{chains}
+use Rattle.setup_line.proofs.Fields.{count_parts}
 use Rattle.setup_line.proofs.field_count.Goals as goal
 
-pub loop-i-preserved : goal.loop-i-preserved
-loop-i-preserved c = elim c.if-line-i-eq44.branch [
-  | then-line-i-eq44 w ↦ omega (arith, count_comma c.args.line.now c.loop-i.i c.loop-i-test.true w.if-line-i-eq44.true)
-  | else-line-i-eq44 w ↦ omega (arith, count_other c.args.line.now c.loop-i.i c.loop-i-test.true w.if-line-i-eq44.false)
-]
-
 pub returns : goal.returns
-returns c = omega (arith, count_end c.args.line.now c.loop-i.i c.loop-i-test.false)
+returns c =
+    let commas : c.count.result ≡ count_by (λ b. eqb b 0x2C) c.args.line.now = search (rules, chains) in
+    omega (arith, count_parts c.args.line.now)

@@ -1,10 +1,11 @@
-use Prim.Native.Nat.{◌-◌}
-use lib.ListN.{length}
+use mathlib.Core.Path.{◌≡◌}
+use lib.ListN.{drop}
 use Rattle.stim_bench.proofs.GatherLaws.{Gathering}
 use Rattle.stim_bench.proofs.gather.Given as goal
 
-abbrev pub invariant-loop-taken : goal.invariant-loop-taken
-invariant-loop-taken l = Gathering l.initial.session l.bytes l.initial.output l.output l.session l.taken l.used
-
-abbrev pub decreases-loop-taken : goal.decreases-loop-taken
-decreases-loop-taken l = length l.bytes - l.taken
+-- the parts that are left are those of the bytes that weren't fed
+abbrev pub invariant-loop-part : goal.invariant-loop-part
+invariant-loop-part l =
+    Gathering l.initial.session l.bytes l.initial.output l.output l.session l.taken l.used
+    × (l.part-iterator.rest.now ≡ drop l.taken l.bytes)
+    × (l.part-iterator.size ≡ 4096)

@@ -1,8 +1,7 @@
 -- `stim_bench::receive_rest` meets its contract: each turn takes from the bytes still allowed, and 12 refuses one more than those. Assumes nothing.
-use Prim.Native.Nat.{ℕ, ◌+◌, ◌≤◌, ◌<◌}
+use Prim.Native.Nat.{ℕ, ◌+◌, ◌≤◌}
 use mathlib.Core.Path.{◌≡◌, sym, subst}
 use mathlib.Core.List.{List}
-use borrow.Author.Tests.{not-false}
 use native.Mathlib.Omega.{arith}
 use lib.ListN.{length, take}
 use lib.Seq.{length-take-le}
@@ -19,20 +18,15 @@ fed_left s t input fed left k H within behind e =
 
 pub refuse_piece-requires : goal.refuse_piece-requires
 refuse_piece-requires g c =
-    let f = c.fitting-fed in
-    let came : (0 < c.in-Bytes.count) × (c.in-Bytes.count ≤ length c.read_some-got.new.buffer) = c.in-Bytes.ensures in
-    none_left c.feed_bytes-behind.result.session 1
-    (fed_left c.loop-count.session c.feed_bytes-behind.result.session c.read_some-got.new.buffer f.result c.loop-count.left 0 c.loop-count.invariant.2
-    (omega (arith, f.ensures, came)) (c.feed_bytes-behind.ensures.whole (not-false c.feed_bytes-behind.result.is_open c.if-not-behind.false)) (omega (arith, f.ensures, c.if-fed-count.true)))
+    let came = c.in_ok-count.ensures.bound in
+    none_left c.in_ok-session.session 1
+    (fed_left c.loop-count.session c.in_ok-session.session c.read_some.new.buffer c.min-fed.result c.loop-count.left 0 c.loop-count.invariant
+    (omega (arith, c.if-fed-count.true, came)) c.in_ok-session.ensures (omega (arith, c.min-fed.ensures, c.if-fed-count.true)))
     (omega arith) (omega arith)
 
 pub loop-count-preserved : goal.loop-count-preserved
 loop-count-preserved g c =
-    let v = c.loop-count.invariant in
-    let f = c.fitting-fed in
-    let came : (0 < c.in-Bytes.count) × (c.in-Bytes.count ≤ length c.read_some-got.new.buffer) = c.in-Bytes.ensures in (
-      omega (arith, v.0, c.read_some-got.auto.buffer),
-      omega (arith, v.1, c.feed_bytes-behind.auto.output),
-      fed_left c.loop-count.session c.feed_bytes-behind.result.session c.read_some-got.new.buffer f.result c.loop-count.left _ v.2
-          (omega (arith, f.ensures, came)) (c.feed_bytes-behind.ensures.whole (not-false c.feed_bytes-behind.result.is_open c.if-not-behind.false)) (omega (arith, f.ensures, c.if-fed-count.false)),
-    )
+    let came = c.in_ok-count.ensures.bound in
+    let all : c.min-fed.result ≡ c.in_ok-count.count = omega (arith, c.min-fed.ensures, c.if-fed-count.false) in
+    fed_left c.loop-count.session c.in_ok-session.session c.read_some.new.buffer c.min-fed.result c.loop-count.left _ c.loop-count.invariant
+    (omega (arith, all, came)) c.in_ok-session.ensures (omega (arith, c.min-fed.ensures, c.if-fed-count.false))

@@ -2,16 +2,23 @@
 use Rattle.setup.specs.Setup.{ruling_on}
 use Rattle.setup_line.proofs.LineAnswers.{accepted_line}
 use Rattle.setup_line.specs.declared.LineRead.{LineRead}
-use Rattle.stim_make.specs.MadeLines.{line_of}
-use mathlib.Core.Path.{sym, ap, ◌∙◌}
+use Rattle.std.specs.Prelude.{Option, IfSome}
+use Rattle.stim_make.specs.MadeLines.{line_of, LiesBehind}
+use Rattle.stim_make.specs.declared.Behind.{Behind}
+use mathlib.Core.Path.{sym, ap, ◌∙◌, subst}
 use Rattle.stim_make.proofs.run.Goals as goal
+
+pub invariant_of-accepted : goal.invariant_of-accepted
+invariant_of-accepted g c =
+    let r = c.read_line-read.ensures in
+    let accepted = ap (λ (x : LineRead). x.answer) (sym r) ∙ c.in_default.is in
+    record { ruled = ap (λ (x : LineRead). ruling_on x.setup) r ∙ (accepted_line (line_of c.in_ok-first.first.line) accepted).1 }
 
 pub receive-requires : goal.receive-requires
 receive-requires g c =
-    let f = c.read_first_line-first in
     let r = c.read_line-read.ensures in
-    let accepted = ap (λ (x : LineRead). x.answer) (sym r) ∙ c.in_default-answer.is in
+    let b = subst (λ (x : Option Behind). IfSome x (LiesBehind c.read_first_line.new.input)) c.in-Some.is c.in_ok-first.ensures in
     record {
-      line_value = (accepted, ap (λ (x : LineRead). x.setup) r, ap (λ (x : LineRead). ruling_on x.setup) r ∙ (accepted_line (line_of f.result.line) accepted).1);
-      from_value = (f.ensures.3 c.if-filled-gt0.true, f.ensures.0, f.ensures.1, c.requires);
+      line_value = (ap (λ (x : LineRead). x.answer) (sym r) ∙ c.in_default.is, ap (λ (x : LineRead). x.setup) r);
+      from_value = b;
     }

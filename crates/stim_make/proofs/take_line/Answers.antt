@@ -14,7 +14,7 @@ pub returns-then-end-bytes : goal.returns-then-end-bytes
 returns-then-end-bytes g c =
     let e = end_by _ c.line_end-end.ensures in
     let k = c.keep-line.ensures in
-    taken_none c.args.setup c.args.start c.args.bytes.now c.args.output.now e.0 k.0 k.1 c.if-end-bytes.true
+    taken_none c.args.accepted.setup c.args.start c.args.bytes.now c.args.output.now e.0 k.0 k.1 c.if-end-bytes.true
 
 pub overflow_add-next : goal.overflow_add-next
 overflow_add-next g c = let e = (end_by _ c.line_end-end.ensures).1 in search rules
@@ -23,4 +23,4 @@ pub returns : goal.returns
 returns g c =
     let e = end_by _ c.line_end-end.ensures in
     let k = c.keep-line.ensures in
-    taken_line c.args.setup c.args.start c.args.bytes.now c.args.output.now e.0 k.0 k.1 e.1 c.if-end-bytes.false c.make_line-made.ensures.answer c.make_line-made.ensures.written c.begun.ensures.0 (c.begun.ensures.1 ∙ c.next_number.ensures)
+    taken_line c.args.accepted.setup c.args.start c.args.bytes.now c.args.output.now e.0 k.0 k.1 e.1 c.if-end-bytes.false c.make_line-made.ensures.answer c.make_line-made.ensures.written c.begun.ensures.0 (c.begun.ensures.1 ∙ c.next_number.ensures)

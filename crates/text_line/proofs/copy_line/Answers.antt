@@ -4,10 +4,10 @@ use Prim.Native.Nat.{ℕ, min}
 use native.Mathlib.Omega.{arith}
 use lib.ListN.{length, drop}
 use lib.Seq.{take-length}
-use Rattle.shown_line.specs.declared.Written.TheVariants.{Line}
 use Rattle.shown_line.proofs.Answers.{room_short, room_enough}
 use Rattle.byte_slices.proofs.ByteSlices.{copied_whole}
 use Rattle.text_line.proofs.copy_line.Goals as goal
+use Rattle.std.specs.Prelude.{Ok}
 
 pub returns-then-buffer-line-clause-answer : goal.returns-then-buffer-line-clause-answer
 returns-then-buffer-line-clause-answer c = (room_short c.args.buffer.now c.args.line.now c.if-buffer-line.true).0
@@ -18,7 +18,7 @@ returns-then-buffer-line-clause-written c = (room_short c.args.buffer.now c.args
 pub returns-clause-answer : goal.returns-clause-answer
 returns-clause-answer c =
     let whole : min (length c.args.line.now) (length c.args.buffer.now) ≡ length c.args.line.now = omega arith in
-    ap Line (c.copy.ensures.count ∙ whole) ∙ (room_enough c.args.buffer.now c.args.line.now c.if-buffer-line.false).0
+    ap Ok (c.copy.ensures.count ∙ whole) ∙ (room_enough c.args.buffer.now c.args.line.now c.if-buffer-line.false).0
 
 pub returns-clause-written : goal.returns-clause-written
 returns-clause-written c =

@@ -13,19 +13,19 @@ use Rattle.text_line.proofs.put_line.Goals.{After-put_groups-end, After-put_head
 
 -- the line's heading, and what follows it
 abbrev heading : Start → List ℕ
-heading s = heading_text s.args.heading.ordinal.0 s.args.heading.counter s.args.heading.latency s.args.heading.gap
+heading s = heading_text s.args.values.ordinal.0 s.args.values.counter s.args.values.latency s.args.values.gap
 
 abbrev groups : Start → List ℕ
-groups s = behind (groups_fields s.args.shown.carried s.args.shown.kept s.args.readings s.args.statuses s.args.totals)
+groups s = behind (groups_fields s.args.shown.carried s.args.shown.kept s.args.values.readings s.args.values.statuses s.args.values.totals)
 
 abbrev rest : Start → List ℕ
 rest s = groups s ++ 0x0A ∷ []
 
 text : (s : Start)
-    → shown_text s.args.shown s.args.heading.ordinal.0 s.args.heading.counter s.args.heading.latency s.args.heading.gap s.args.readings s.args.statuses s.args.totals
+    → shown_text s.args.shown s.args.values.ordinal.0 s.args.values.counter s.args.values.latency s.args.values.gap s.args.values.readings s.args.values.statuses s.args.values.totals
     ≡ heading s ++ rest s
 text s =
-    line_text_lem s.args.shown s.args.heading.ordinal.0 s.args.heading.counter s.args.heading.latency s.args.heading.gap s.args.readings s.args.statuses s.args.totals
+    line_text_lem s.args.shown s.args.values.ordinal.0 s.args.values.counter s.args.values.latency s.args.values.gap s.args.values.readings s.args.values.statuses s.args.values.totals
 
 room_all : (s : Start) → 0 + length (heading s ++ rest s) ≤ length s.args.buffer.now
 room_all s = omega (arith, ap length (text s), s.requires)
@@ -34,7 +34,7 @@ room_rest : (c : After-put_heading-at) → c.put_heading-at.result + length (res
 room_rest c = let s = c.before.before.before.before.before in room_then c.put_heading-at.ensures (rest s) (room_all s)
 
 room_end : (c : After-put_groups-end) → c.put_groups-end.result + 1 ≤ length c.put_groups-end.new.buffer
-room_end c = room_then c.put_groups-end.ensures (0x0A ∷ []) (room_rest c.before.before.before.before)
+room_end c = room_then c.put_groups-end.ensures (0x0A ∷ []) (room_rest c.before.before.before.before.before.before.before)
 
 pub put_heading-at-requires : goal.put_heading-at-requires
 put_heading-at-requires c = let s = (goal.at.put_heading-at-requires c).Start in rw (zero-add (length (heading s))) at (room_first 0 (heading s) (rest s) (room_all s))

@@ -12,4 +12,4 @@ returns-then-place-eq0 c = rw c.if-place-eq0.true
 
 pub returns : goal.returns
 unfolding fields_at
-returns c = rw (lt-ltb 0 c.args.place (omega arith), kept w32 c.reading_at.type_inv c.reading_at.ensures)
+returns c = rw (lt-ltb 0 c.args.place (omega arith), kept w32 c.signed_at.type_inv c.signed_at.ensures)

@@ -2,12 +2,8 @@ use native.Mathlib.Omega.{arith}
 use mathlib.Core.Path.{refl}
 use Rattle.setup.specs.Layout.{counter}
 use Rattle.wire.specs.Fields.{contents_of}
-use Rattle.wire.proofs.RowPlaces.{place_low}
 use Rattle.wire.proofs.FieldPlaces.{byte_placed}
 use Rattle.wire.proofs.counter.Goals as goal
-
-pub byte_at-requires : goal.byte_at-requires
-byte_at-requires c = rw c.counter_place.ensures (place_low c.args.row counter, omega arith)
 
 pub returns : goal.returns
 unfolding contents_of

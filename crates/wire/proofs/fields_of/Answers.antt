@@ -7,40 +7,8 @@ use mathlib.Core.Path.{◌≡◌, refl, ap, ◌∙◌}
 use lib.ListN.{get_or}
 use Rattle.setup.specs.Layout.{gyro_temperatures, accelerometer_temperatures, inclinometer_temperatures, aux, parts_of}
 use Rattle.wire.specs.Fields.{fields_of_part, axes, contents_of}
-use Rattle.wire.proofs.RowPlaces.{place_low}
 use Rattle.wire.proofs.FieldPlaces.{fields_placed, byte_placed, axes_read, byte_read}
 use Rattle.wire.proofs.fields_of.Goals as goal
-
-pub axes_at-requires-clause-place_bound : goal.axes_at-requires-clause-place_bound
-axes_at-requires-clause-place_bound c =
-    let a = c.args in
-    rw c.temperature_places-places.ensures (search (place_low a.row))
-
-pub axes_at-requires-2-clause-place_bound : goal.axes_at-requires-2-clause-place_bound
-axes_at-requires-2-clause-place_bound c =
-    let a = c.args in
-    rw c.temperature_places-places.ensures (search (place_low a.row))
-
-pub axes_at-requires-3-clause-place_bound : goal.axes_at-requires-3-clause-place_bound
-axes_at-requires-3-clause-place_bound c =
-    let a = c.args in
-    rw c.temperature_places-places.ensures (search (place_low a.row))
-
-pub bytes_at-requires-clause-places_bound : goal.bytes_at-requires-clause-places_bound
-bytes_at-requires-clause-places_bound c =
-    let r = c.args.row in
-    rw c.temperature_places-places.ensures
-    (place_low r gyro_temperatures, place_low r accelerometer_temperatures, place_low r inclinometer_temperatures)
-
-pub aux_at-requires : goal.aux_at-requires
-aux_at-requires c =
-    let a = c.args in
-    rw c.aux_place-aux.ensures (place_low a.row aux)
-
-pub byte_at-requires : goal.byte_at-requires
-byte_at-requires c =
-    let a = c.args in
-    rw c.aux_place-aux.ensures (place_low a.row aux, omega arith)
 
 -- each set of temperatures, each status and AUX are those of their own part
 pub returns : goal.returns

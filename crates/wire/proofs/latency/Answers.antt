@@ -12,13 +12,10 @@ use Rattle.wire.proofs.latency.Goals as goal
 pub overflow_add-counter_place : goal.overflow_add-counter_place
 overflow_add-counter_place c = omega (arith, c.counter_place.ensures, place_low c.args.row counter)
 
-pub latency_at-requires : goal.latency_at-requires
-latency_at-requires c = omega (arith, c.counter_place.ensures, place_low c.args.row counter)
-
 pub returns : goal.returns
 unfolding contents_of fields_at
 returns c =
     let r = c.args.row in
     let s = c.args.s.now in
     rw (fields_placed r s latency refl, latency_at r, lt-ltb 0 (placed (parts_of r) counter + 1) (omega arith))
-    (rw c.counter_place.ensures at c.latency_at.ensures)
+    (rw (c.window.ensures, c.counter_place.ensures) at c.unsigned_of.ensures)

@@ -10,4 +10,9 @@ overflow_add-result-2 c = omega (arith, c.check_place.ensures, c.if_carried.ensu
 
 pub returns : goal.returns
 returns c =
-    rw (length_parts c.args.row c.args.terminated, c.check_place.ensures, c.if_carried.ensures.0)
+    omega (
+      arith,
+      length_parts c.args.row c.args.terminated,
+      c.check_place.ensures,
+      c.if_carried.ensures,
+    )

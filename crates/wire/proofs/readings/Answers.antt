@@ -4,22 +4,8 @@ use mathlib.Core.Path.{◌≡◌, refl, ap}
 use lib.ListN.{get_or}
 use Rattle.setup.specs.Layout.{gyro, accelerometer, inclinometer, parts_of}
 use Rattle.wire.specs.Fields.{fields_of_part, axes, contents_of}
-use Rattle.wire.proofs.RowPlaces.{place_low}
 use Rattle.wire.proofs.FieldPlaces.{axes_read}
 use Rattle.wire.proofs.readings.Goals as goal
-
-pub axes_at-requires-clause-place_bound : goal.axes_at-requires-clause-place_bound
-axes_at-requires-clause-place_bound c = rw c.group_places-places.ensures (search (place_low c.args.row))
-
-pub axes_at-requires-2-clause-place_bound : goal.axes_at-requires-2-clause-place_bound
-axes_at-requires-2-clause-place_bound c =
-    let a = c.args in
-    rw c.group_places-places.ensures (search (place_low a.row))
-
-pub axes_at-requires-3-clause-place_bound : goal.axes_at-requires-3-clause-place_bound
-axes_at-requires-3-clause-place_bound c =
-    let a = c.args in
-    rw c.group_places-places.ensures (search (place_low a.row))
 
 -- each group's readings are those of its own part
 pub returns : goal.returns

@@ -2,14 +2,8 @@ use native.Mathlib.Omega.{arith}
 use mathlib.Core.Path.{refl}
 use Rattle.setup.specs.Layout.{gyro, accelerometer, inclinometer}
 use Rattle.wire.specs.Fields.{contents_of}
-use Rattle.wire.proofs.RowPlaces.{place_low}
 use Rattle.wire.proofs.FieldPlaces.{byte_placed}
 use Rattle.wire.proofs.statuses.Goals as goal
-
-pub bytes_at-requires-clause-places_bound : goal.bytes_at-requires-clause-places_bound
-bytes_at-requires-clause-places_bound c =
-    let r = c.args.row in
-    rw c.group_places.ensures (place_low r gyro, place_low r accelerometer, place_low r inclinometer)
 
 pub returns : goal.returns
 unfolding contents_of

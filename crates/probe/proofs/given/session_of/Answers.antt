@@ -7,7 +7,7 @@ unfolding session_in
 returns c =
     rw (
       c.setup_of-setup.ensures,
-      c.held_of-held.ensures,
+      c.bytes_at-held.ensures,
       c.history_of-history.ensures,
       c.u64_at.ensures,
       c.u64_at-2.ensures,

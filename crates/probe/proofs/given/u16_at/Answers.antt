@@ -1,7 +1,7 @@
 -- `probe::given::u16_at` meets its contract. Assumes nothing.
-use Rattle.probe.specs.Records.{short_at}
+use mathlib.Core.Path.{◌∙◌}
+use Rattle.probe.proofs.Reading.{short_read}
 use Rattle.probe.proofs.given.u16_at.Goals as goal
 
 pub returns : goal.returns
-unfolding short_at
-returns c = rw (c.byte_or_zero.ensures, c.byte_or_zero-2.ensures)
+returns c = (rw c.bytes_at.ensures at c.from_le_bytes.ensures) ∙ short_read c.args.s.now c.args.i

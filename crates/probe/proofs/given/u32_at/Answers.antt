@@ -1,7 +1,7 @@
 -- `probe::given::u32_at` meets its contract. Assumes nothing.
-use Rattle.probe.specs.Records.{word_at}
+use mathlib.Core.Path.{◌∙◌}
+use Rattle.probe.proofs.Reading.{word_read}
 use Rattle.probe.proofs.given.u32_at.Goals as goal
 
 pub returns : goal.returns
-unfolding word_at
-returns c = rw (c.u16_at.ensures, c.u16_at-2.ensures)
+returns c = (rw c.bytes_at.ensures at c.from_le_bytes.ensures) ∙ word_read c.args.s.now c.args.i

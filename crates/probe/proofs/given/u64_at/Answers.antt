@@ -1,7 +1,7 @@
 -- `probe::given::u64_at` meets its contract. Assumes nothing.
-use Rattle.probe.specs.Records.{long_at}
+use mathlib.Core.Path.{◌∙◌}
+use Rattle.probe.proofs.Reading.{long_read}
 use Rattle.probe.proofs.given.u64_at.Goals as goal
 
 pub returns : goal.returns
-unfolding long_at
-returns c = rw (c.u32_at.ensures, c.u32_at-2.ensures)
+returns c = (rw c.bytes_at.ensures at c.from_le_bytes.ensures) ∙ long_read c.args.s.now c.args.i

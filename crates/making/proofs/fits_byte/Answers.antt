@@ -1,8 +1,0 @@
-use mir.Syntax.{w32}
-use mir.ValLaws.{to_z-of_z}
-use Rattle.integers.specs.Ranges.{fits}
-use Rattle.making.proofs.fits_byte.Goals as goal
-
-pub returns : goal.returns
-unfolding fits
-returns c = rw (to_z-of_z w32 c.args.z c.ranges.z)

@@ -1,4 +1,0 @@
-use Rattle.printing.proofs.+put_last.Given as goal
-
-abbrev pub decreases-put_last : goal.decreases-put_last
-decreases-put_last l = l.k
