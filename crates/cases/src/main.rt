@@ -8,13 +8,12 @@
 //     fit STATUS XYZ COUNT   which axes a status leaves fit (1), and how many channels it flags
 //     judged STATUS XYZ      the judgement of each axis by a status: 0 fit, 1 integrity, 2 start-up, 3 error, 4 overload
 //     gap RATE FIRST PREVIOUS COUNTER MISSED     the datagrams missed, or `?`
-ghost use Rattle.std.specs.Prelude.{◌≤◌};
+ghost use Rattle.std.specs.Prelude.{◌≡◌, ◌≤◌, length};
 
 use gaps::Gap;
 use motion::{GroupJudgements, Judgement};
 use refusals::Refusal;
 use setup::{Rate, Row, Sensor, Setup};
-use std::alloc::{AllocError, Global};
 use std::io;
 use std::io::Write;
 
@@ -48,16 +47,27 @@ fn hexadecimal_of(rest: &[u8]) -> u64 {
     )
 }
 
+// Bytes in an array, since a program for tests needs no heap, with how many there are.
+#[derive(Clone, Copy)]
+struct Bytes {
+    bytes: [u8; 256],
+    count: usize,
+}
+
 // The bytes that the word k and what follows it write by pairs of hexadecimal digits, 256 at most.
-fn bytes_at(alloc: Global, given: &[u8], k: usize) -> Result<Vec<u8>, AllocError>
+fn bytes_at(given: &[u8], k: usize) -> Bytes
     requires { k ≤ 100 }
+    ensures { (result.count ≤ 256) × (length result.bytes ≡ 256) }
 {
     let (pairs, _) = rest_at(given, k).as_chunks::<2>();
-    pairs
-        .iter()
-        .take(256)
-        .map(|pair| digit_value(pair[0]) * 16 + digit_value(pair[1]))
-        .collect(alloc)
+    let mut bytes = [0u8; 256];
+    for (byte, pair) in bytes.iter_mut().zip(pairs) {
+        *byte = digit_value(pair[0]) * 16 + digit_value(pair[1]);
+    }
+    Bytes {
+        bytes: bytes,
+        count: pairs.len().min(256),
+    }
 }
 
 fn value_at(given: &[u8], k: usize) -> u16
@@ -66,14 +76,16 @@ fn value_at(given: &[u8], k: usize) -> u16
     (decimal_of(rest_at(given, k)) % 65536) as u16
 }
 
-fn check_case(alloc: Global, given: &[u8]) -> Result<bool, AllocError> {
-    let bytes = bytes_at(alloc, given, 2)?;
-    Ok(crc::crc32(&bytes) as u64 == hexadecimal_of(rest_at(given, 1)))
+fn check_case(given: &[u8]) -> bool {
+    let checked = bytes_at(given, 2);
+    let count = checked.count;
+    crc::crc32(&checked.bytes[..count]) as u64 == hexadecimal_of(rest_at(given, 1))
 }
 
-fn mpeg2_case(alloc: Global, given: &[u8]) -> Result<bool, AllocError> {
-    let bytes = bytes_at(alloc, given, 2)?;
-    Ok(crc::crc32_mpeg2(&bytes) as u64 == hexadecimal_of(rest_at(given, 1)))
+fn mpeg2_case(given: &[u8]) -> bool {
+    let checked = bytes_at(given, 2);
+    let count = checked.count;
+    crc::crc32_mpeg2(&checked.bytes[..count]) as u64 == hexadecimal_of(rest_at(given, 1))
 }
 
 // The number at the word k, `-` before a negative one.
@@ -98,17 +110,19 @@ fn described_by(identifier: u8, termination: u16, rate: u16) -> Result<Sensor, R
     })
 }
 
-fn accepts_case(alloc: Global, given: &[u8]) -> Result<bool, AllocError> {
+fn accepts_case(given: &[u8]) -> bool {
     let described = described_by((value_at(given, 2) % 256) as u8, value_at(given, 3), 0);
-    let bytes = bytes_at(alloc, given, 4)?;
+    let datagram = bytes_at(given, 4);
+    let count = datagram.count;
+    let bytes = &datagram.bytes[..count];
     let expected = value_at(given, 1) == 1;
-    Ok(match described {
+    match described {
         Ok(sensor) => {
             let row = sensor.row;
-            acceptance::is_acceptable(sensor.identifier, row, sensor.terminated, &bytes) == expected
+            acceptance::is_acceptable(sensor.identifier, row, sensor.terminated, bytes) == expected
         }
         Err(_) => !expected,
-    })
+    }
 }
 
 fn same_reading(reading: i32, given: &[u8], k: usize) -> bool
@@ -143,13 +157,14 @@ fn same_contents(given: &[u8], row: Row, bytes: &[u8]) -> bool {
         & (wire::latency(row, bytes) == value_at(given, 15))
 }
 
-fn decodes_case(alloc: Global, given: &[u8]) -> Result<bool, AllocError> {
-    let bytes = bytes_at(alloc, given, 16)?;
+fn decodes_case(given: &[u8]) -> bool {
+    let datagram = bytes_at(given, 16);
+    let count = datagram.count;
     let listing = setup::row_of((value_at(given, 1) % 256) as u8);
-    Ok(match listing {
-        Some(row) => same_contents(given, row, &bytes),
+    match listing {
+        Some(row) => same_contents(given, row, &datagram.bytes[..count]),
         None => false,
-    })
+    }
 }
 
 fn one_if(set: bool, weight: u32) -> u32
@@ -218,21 +233,21 @@ fn gap_case(given: &[u8]) -> bool {
 }
 
 // Whether a case comes out as it says: one arm for each kind, each with its call.
-fn passes(alloc: Global, given: &[u8]) -> Result<bool, AllocError> {
+fn passes(given: &[u8]) -> bool {
     match given.first() {
-        Some(b'c') => check_case(alloc, given),
-        Some(b'm') => mpeg2_case(alloc, given),
-        Some(b'a') => accepts_case(alloc, given),
-        Some(b'd') => decodes_case(alloc, given),
-        Some(b'f') => Ok(fit_case(given)),
-        Some(b'j') => Ok(judged_case(given)),
-        Some(b'g') => Ok(gap_case(given)),
-        _ => Ok(false),
+        Some(b'c') => check_case(given),
+        Some(b'm') => mpeg2_case(given),
+        Some(b'a') => accepts_case(given),
+        Some(b'd') => decodes_case(given),
+        Some(b'f') => fit_case(given),
+        Some(b'j') => judged_case(given),
+        Some(b'g') => gap_case(given),
+        _ => false,
     }
 }
 
-fn run<W: Write>(writer: &mut W, alloc: Global, given: &[u8]) -> io::Result<()> {
-    if passes(alloc, given)? {
+fn run<W: Write>(writer: &mut W, given: &[u8]) -> io::Result<()> {
+    if passes(given) {
         writer.write_all(b"ok ")?;
     } else {
         writer.write_all(b"WRONG ")?;
@@ -242,10 +257,10 @@ fn run<W: Write>(writer: &mut W, alloc: Global, given: &[u8]) -> io::Result<()> 
 }
 
 // Runs the lines that end; a last one without 0x0A is no case.
-fn run_all<W: Write>(writer: &mut W, alloc: Global, text: &[u8]) -> io::Result<()> {
+fn run_all<W: Write>(writer: &mut W, text: &[u8]) -> io::Result<()> {
     for line in text.split_inclusive(|b| *b == b'\n') {
         if let Some(given) = line.strip_suffix(b"\n") {
-            run(writer, alloc, given)?;
+            run(writer, given)?;
         }
     }
     Ok(())
@@ -254,5 +269,5 @@ fn run_all<W: Write>(writer: &mut W, alloc: Global, text: &[u8]) -> io::Result<(
 fn main(rt: HostRuntime) -> io::Result<()> {
     let mut buffer = console::large_buffer();
     let count = console::read_full(&mut rt.stdin(), &mut buffer)?;
-    run_all(&mut rt.stdout(), rt.alloc(), &buffer[..count])
+    run_all(&mut rt.stdout(), &buffer[..count])
 }

@@ -1,4 +1,4 @@
--- Why a program ends before its input does.
+-- A helper of proofs, no rule of 01: why a program ends before its input does.
 use Rattle.std.specs.Prelude.{◌≡◌}
 use Rattle.std.specs.IoError.{error_kind}
 use Rattle.std.specs.declared.io.ErrorKind.TheVariants.{BrokenPipe}

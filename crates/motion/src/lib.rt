@@ -223,11 +223,14 @@ fn kept_step(kept: bool, axis: Axis, fit: bool, reading: i32) -> Axis
     fit_step(axis, reading)
 }
 
-// One datagram on the axes of one group.
-#[tactic(auto, unfolding(crate::specs::Totals::group_step))]
+// One datagram on the axes of one group; those of a group that keeps no totals stay as they are.
+#[tactic(auto, unfolding(crate::specs::Totals::group_step, crate::specs::Totals::kept_step))]
 fn group_step(kept: bool, axes: GroupAxes, readings: [i32; 3], status: u8) -> GroupAxes
     ensures { result ≡ group_step kept axes readings status }
 {
+    if !kept {
+        return axes;
+    }
     let seen = PerAxis::of(fit_axes(status)).zip(PerAxis::of(readings));
     axes.map_with(seen, |axis, (fit, reading)| {
         kept_step(kept, axis, fit, reading)

@@ -2,7 +2,7 @@
 ghost use Rattle.std.specs.Prelude.{◌≡◌, ◌+◌, ◌≤◌};
 ghost use Rattle.wire.specs.Fields.{window};
 ghost use Rattle.gaps.specs.Gaps.{datagrams};
-ghost use Rattle.probe.specs.Records.{short_at, word_at, long_at, signed_word_at, signed_long_at, mark_at};
+ghost use Rattle.probe.specs.Records.{byte_at, short_at, word_at, long_at, signed_word_at, signed_long_at, mark_at};
 ghost use Rattle.probe.specs.Records.{three_at, setup_in, axis_at, group_axes_at, doubt_at, gyro_doubt_in, history_in, session_in};
 ghost use Rattle.probe.specs.Records.{gap_in, row_at, grid_at, statuses_in, total_at, group_totals_at, totals_in};
 ghost use Rattle.probe.specs.Records.{values_in};
@@ -20,40 +20,6 @@ use std::array;
 // So many bytes a session takes.
 pub(crate) const SESSION_SIZE: usize = 246;
 
-// The places of single values: of a text line,
-pub(crate) const LINE_COUNTER: usize = 25;
-
-pub(crate) const LINE_LATENCY: usize = 26;
-
-pub(crate) const LINE_READINGS: usize = 37;
-
-pub(crate) const LINE_ROOM: usize = 157;
-
-pub(crate) const LINE_FILL: usize = 159;
-
-// of the lines of a whole piece, behind the session,
-pub(crate) const LINES_ROOM: usize = 246;
-
-pub(crate) const LINES_FILL: usize = 250;
-
-// of a datagram to write,
-pub(crate) const MADE_READINGS: usize = 17;
-
-pub(crate) const MADE_ROOM: usize = 129;
-
-pub(crate) const MADE_FILL: usize = 131;
-
-// and of a value to print.
-pub(crate) const VALUE_NUMBER: usize = 0;
-
-pub(crate) const VALUE_SHIFT: usize = 8;
-
-pub(crate) const VALUE_PLACES: usize = 10;
-
-pub(crate) const VALUE_ROOM: usize = 12;
-
-pub(crate) const VALUE_FILL: usize = 14;
-
 // So many bytes from a place on. The bound, here and below, keeps a place from wrapping; a narrower type would be cast at each use.
 fn bytes_at<const N: usize>(s: &[u8], at: usize) -> [u8; N]
     requires { at + N ≤ 6000 }
@@ -63,14 +29,14 @@ fn bytes_at<const N: usize>(s: &[u8], at: usize) -> [u8; N]
 }
 
 // The numbers at a place, each type by its own conversion.
-pub(crate) fn u16_at(s: &[u8], i: usize) -> u16
+fn u16_at(s: &[u8], i: usize) -> u16
     requires { i ≤ 5000 }
     ensures { result ≡ short_at s.now i }
 {
     u16::from_le_bytes(bytes_at(s, i))
 }
 
-pub(crate) fn u32_at(s: &[u8], i: usize) -> u32
+fn u32_at(s: &[u8], i: usize) -> u32
     requires { i ≤ 5000 }
     ensures { result ≡ word_at s.now i }
 {
@@ -91,7 +57,7 @@ fn i32_at(s: &[u8], i: usize) -> i32
     u32_at(s, i).cast_signed()
 }
 
-pub(crate) fn i64_at(s: &[u8], i: usize) -> i64
+fn i64_at(s: &[u8], i: usize) -> i64
     requires { i ≤ 5000 }
     ensures { result ≡ signed_long_at s.now i }
 {
@@ -109,6 +75,14 @@ fn three_at(s: &[u8], i: usize) -> [u16; 3]
     ensures { result ≡ three_at s.now i }
 {
     [u16_at(s, i), u16_at(s, i + 2), u16_at(s, i + 4)]
+}
+
+// How many bytes follow the head of a record. Each value that the program takes from a record has a function of its own, here and below: its contract says
+// where the value stands.
+pub(crate) fn size_of(head: &[u8]) -> u16
+    ensures { result ≡ short_at head.now 1 }
+{
+    u16_at(head, 1)
 }
 
 // The setup of a record.
@@ -210,6 +184,18 @@ pub(crate) fn ordinal_of(s: &[u8]) -> Datagrams
     Datagrams(u64_at(s, 17))
 }
 
+pub(crate) fn counter_of(s: &[u8]) -> u8
+    ensures { result ≡ byte_at s.now 25 }
+{
+    byte_or_zero(s, 25)
+}
+
+pub(crate) fn latency_of(s: &[u8]) -> u16
+    ensures { result ≡ short_at s.now 26 }
+{
+    u16_at(s, 26)
+}
+
 pub(crate) fn gap_of(s: &[u8]) -> Gap
     ensures { result ≡ gap_in s.now }
 {
@@ -227,11 +213,18 @@ fn row_at(s: &[u8], i: usize) -> [i32; 3]
 }
 
 // Three rows of readings.
-pub(crate) fn grid_at(s: &[u8], i: usize) -> [[i32; 3]; 3]
+fn grid_at(s: &[u8], i: usize) -> [[i32; 3]; 3]
     requires { i ≤ 3000 }
     ensures { result ≡ grid_at s.now i }
 {
     [row_at(s, i), row_at(s, i + 12), row_at(s, i + 24)]
+}
+
+// The readings of a text line.
+pub(crate) fn grid_of(s: &[u8]) -> [[i32; 3]; 3]
+    ensures { result ≡ grid_at s.now 37 }
+{
+    grid_at(s, 37)
 }
 
 pub(crate) fn statuses_of(s: &[u8]) -> [u8; 3]
@@ -271,7 +264,26 @@ pub(crate) fn totals_of(s: &[u8]) -> Totals
     }
 }
 
-// What a datagram is written from, beside its readings.
+// The length of the buffer to lend for a line, and the byte that fills it.
+pub(crate) fn room_of(s: &[u8]) -> u16
+    ensures { result ≡ short_at s.now 157 }
+{
+    u16_at(s, 157)
+}
+
+pub(crate) fn fill_of(s: &[u8]) -> u8
+    ensures { result ≡ byte_at s.now 159 }
+{
+    byte_or_zero(s, 159)
+}
+
+// What a datagram is written from: its readings, and the other values.
+pub(crate) fn made_grid_of(s: &[u8]) -> [[i32; 3]; 3]
+    ensures { result ≡ grid_at s.now 17 }
+{
+    grid_at(s, 17)
+}
+
 pub(crate) fn values_of(s: &[u8]) -> Values
     ensures { result ≡ values_in s.now }
 {
@@ -291,4 +303,62 @@ pub(crate) fn values_of(s: &[u8]) -> Values
         counter: i32_at(s, 121),
         latency: i32_at(s, 125),
     }
+}
+
+// The length of the buffer to lend for it, and the byte that fills it.
+pub(crate) fn made_room_of(s: &[u8]) -> u16
+    ensures { result ≡ short_at s.now 129 }
+{
+    u16_at(s, 129)
+}
+
+pub(crate) fn made_fill_of(s: &[u8]) -> u8
+    ensures { result ≡ byte_at s.now 131 }
+{
+    byte_or_zero(s, 131)
+}
+
+// What a value is printed from.
+pub(crate) fn number_of(s: &[u8]) -> i64
+    ensures { result ≡ signed_long_at s.now 0 }
+{
+    i64_at(s, 0)
+}
+
+pub(crate) fn shift_of(s: &[u8]) -> u16
+    ensures { result ≡ short_at s.now 8 }
+{
+    u16_at(s, 8)
+}
+
+pub(crate) fn places_of(s: &[u8]) -> u16
+    ensures { result ≡ short_at s.now 10 }
+{
+    u16_at(s, 10)
+}
+
+// The length of the buffer to lend for it, and the byte that fills it.
+pub(crate) fn value_room_of(s: &[u8]) -> u16
+    ensures { result ≡ short_at s.now 12 }
+{
+    u16_at(s, 12)
+}
+
+pub(crate) fn value_fill_of(s: &[u8]) -> u8
+    ensures { result ≡ byte_at s.now 14 }
+{
+    byte_or_zero(s, 14)
+}
+
+// The same for the lines of a whole piece, behind the session.
+pub(crate) fn lines_room_of(s: &[u8]) -> u32
+    ensures { result ≡ word_at s.now 246 }
+{
+    u32_at(s, SESSION_SIZE)
+}
+
+pub(crate) fn lines_fill_of(s: &[u8]) -> u8
+    ensures { result ≡ byte_at s.now 250 }
+{
+    byte_or_zero(s, SESSION_SIZE + 4)
 }

@@ -21,12 +21,11 @@ mod shown;
 ghost use Rattle.std.specs.Prelude.{◌≡◌, ◌≤◌, length};
 
 use given::{
-    LINE_COUNTER, LINE_FILL, LINE_LATENCY, LINE_READINGS, LINE_ROOM, LINES_FILL, LINES_ROOM,
-    MADE_FILL, MADE_READINGS, MADE_ROOM, SESSION_SIZE, VALUE_FILL, VALUE_NUMBER, VALUE_PLACES,
-    VALUE_ROOM, VALUE_SHIFT, gap_of, grid_at, i64_at, ordinal_of, session_of, setup_of,
-    statuses_of, totals_of, u16_at, u32_at, values_of,
+    SESSION_SIZE, counter_of, fill_of, gap_of, grid_of, latency_of, lines_fill_of, lines_room_of,
+    made_fill_of, made_grid_of, made_room_of, number_of, ordinal_of, places_of, room_of,
+    session_of, setup_of, shift_of, size_of, statuses_of, totals_of, value_fill_of, value_room_of,
+    values_of,
 };
-use integers::byte_or_zero;
 use refusals::Refusal;
 use shown::{
     end_line, put_answer, put_bytes, put_datagram, put_given, put_grid, put_number, put_rehearsed,
@@ -67,10 +66,10 @@ fn feed_record<W: Write>(writer: &mut W, s: &[u8]) -> io::Result<()> {
 fn write_given(buffer: &mut [u8], s: &[u8]) -> Result<usize, Refusal> {
     let values = LineValues {
         ordinal: ordinal_of(s),
-        counter: byte_or_zero(s, LINE_COUNTER),
-        latency: u16_at(s, LINE_LATENCY),
+        counter: counter_of(s),
+        latency: latency_of(s),
         gap: gap_of(s),
-        readings: grid_at(s, LINE_READINGS),
+        readings: grid_of(s),
         statuses: statuses_of(s),
         totals: totals_of(s),
     };
@@ -86,8 +85,8 @@ fn filled<const N: usize>(fill: u8) -> [u8; N]
 
 // A text line, with all of the buffer behind the answer.
 fn line_record<W: Write>(writer: &mut W, s: &[u8]) -> io::Result<()> {
-    let room = (u16_at(s, LINE_ROOM) % 401) as usize;
-    let mut buffer = filled::<400>(byte_or_zero(s, LINE_FILL));
+    let room = (room_of(s) % 401) as usize;
+    let mut buffer = filled::<400>(fill_of(s));
     let written = write_given(&mut buffer[..room], s);
     put_text(writer, b" line")?;
     put_written(writer, written)?;
@@ -151,8 +150,8 @@ fn lines_record<W: Write>(writer: &mut W, s: &[u8]) -> io::Result<()> {
     if s.len() < SESSION_SIZE + 5 {
         return Ok(());
     }
-    let room = (u32_at(s, LINES_ROOM) % 72002) as usize;
-    let fill = byte_or_zero(s, LINES_FILL);
+    let room = (lines_room_of(s) % 72002) as usize;
+    let fill = lines_fill_of(s);
     let mut buffer = filled::<72001>(fill);
     let batch = lines::receive_lines(session_of(s), &s[SESSION_SIZE + 5..], &mut buffer[..room]);
     put_text(writer, b" lines")?;
@@ -161,15 +160,15 @@ fn lines_record<W: Write>(writer: &mut W, s: &[u8]) -> io::Result<()> {
 
 fn make_given(buffer: &mut [u8], s: &[u8]) -> Result<usize, Refusal> {
     let setup = setup_of(s);
-    let grid = grid_at(s, MADE_READINGS);
+    let grid = made_grid_of(s);
     let values = values_of(s);
     making::write_datagram(buffer, setup, grid, values)
 }
 
 // A datagram, with all of the buffer behind the answer.
 fn made_record<W: Write>(writer: &mut W, s: &[u8]) -> io::Result<()> {
-    let room = (u16_at(s, MADE_ROOM) % 401) as usize;
-    let mut buffer = filled::<400>(byte_or_zero(s, MADE_FILL));
+    let room = (made_room_of(s) % 401) as usize;
+    let mut buffer = filled::<400>(made_fill_of(s));
     let made = make_given(&mut buffer[..room], s);
     put_text(writer, b" made")?;
     put_written(writer, made)?;
@@ -191,13 +190,13 @@ fn rehearsal_record<W: Write>(writer: &mut W, s: &[u8]) -> io::Result<()> {
 
 // A value, with all of the buffer behind the answer.
 fn value_record<W: Write>(writer: &mut W, s: &[u8]) -> io::Result<()> {
-    let room = (u16_at(s, VALUE_ROOM) % 401) as usize;
-    let mut buffer = filled::<400>(byte_or_zero(s, VALUE_FILL));
+    let room = (value_room_of(s) % 401) as usize;
+    let mut buffer = filled::<400>(value_fill_of(s));
     let printed = printing::print_value(
         &mut buffer[..room],
-        i64_at(s, VALUE_NUMBER),
-        u16_at(s, VALUE_SHIFT),
-        u16_at(s, VALUE_PLACES),
+        number_of(s),
+        shift_of(s),
+        places_of(s),
     );
     put_text(writer, b" value")?;
     put_written(writer, printed)?;
@@ -226,7 +225,7 @@ fn answer_record<W: Write>(writer: &mut W, number: u64, kind: u8, s: &[u8]) -> i
 fn next_record<R: Read, W: Write>(reader: &mut R, writer: &mut W, number: u64) -> io::Result<bool> {
     let mut head = [0u8; 3];
     let begun = console::read_full(reader, &mut head)?;
-    let size = u16_at(&head, 1) as usize;
+    let size = size_of(&head) as usize;
     let mut payload = console::zeros::<6144>();
     if begun < 3 {
         return Ok(false);

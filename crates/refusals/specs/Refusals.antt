@@ -1,5 +1,6 @@
 -- 01, What is turned down; 02, 2.1, 2.6: the number of each refusal, and the answer by rules in checking order.
-use Rattle.std.specs.Prelude.{ℕ, Result, Ok, Err}
+use Rattle.std.specs.Prelude.{ℕ, Result, Ok, Err, List, ◌++◌, codes}
+use Rattle.std.specs.Fmt.{decimal}
 use Rattle.std.proofs.Math.Option.{Option, none, some}
 use Rattle.refusals.specs.declared.Refusal.{Refusal}
 use Rattle.refusals.specs.declared.Refusal.TheVariants.{LineLength, FieldCount, FieldForm, RateUnknown, IdentifierUnknown, TerminationUnknown, UnitTooGreat, ShiftTooGreat, GroupNotCarried, SessionUnsound, PieceTooLong, StreamTooLong, LineOutside, LineRoom, DatagramOutside, DatagramRoom, PlacesOrShift, NumberTooGreat, ValueRoom}
@@ -25,6 +26,10 @@ number_of DatagramRoom = 16
 number_of PlacesOrShift = 17
 number_of NumberTooGreat = 18
 number_of ValueRoom = 19
+
+-- what the programs say of it: `refused ` and the number
+abbrev pub refusal_text : Refusal → List ℕ
+refusal_text e = codes "refused " ++ decimal (number_of e)
 
 -- the number of what refuses, none where nothing does
 abbrev pub number_in : Option Refusal → Option ℕ

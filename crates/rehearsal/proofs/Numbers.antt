@@ -1,16 +1,14 @@
 -- Laws of the numbers of a line, as the code reads them.
-use Prim.Native.Nat.{ℕ, zero, suc, ◌+◌, ◌-◌, ◌*◌, ◌≤◌, ◌<◌, min}
+use Prim.Native.Nat.{ℕ, ◌+◌, ◌-◌, ◌*◌, ◌≤◌, ◌<◌, min}
 use native.Mathlib.Omega.{arith}
 use mathlib.Core.Bool.{Bool, true, false, not, ◌&&◌, ◌||◌}
 use mathlib.Core.List.{List, [], ◌∷◌}
 use mathlib.Core.Path.{◌≡◌, refl, sym, ap, ◌∙◌}
 use lib.Dec.{eqb}
 use lib.IntN.{pos, neg_ℤ}
-use lib.ListN.{length, get_or, take, drop, drop_of_length-le}
-use lib.Seq.{drop-cons}
-use native.Mathlib.Numerals.{add-one}
+use lib.ListN.{length, get_or, take, drop}
 use borrow.Author.Tests.{eq-eqb, ne_eqb}
-use Rattle.std.specs.List.{list_all, range_with_len}
+use Rattle.std.specs.List.{list_all, enumerate_from}
 use Rattle.setup_line.specs.SetupLine.{digit_value, decimal_from, decimal_value}
 use Rattle.rehearsal.specs.RehearsalLine.{digits_written, number_written, number_value, nearest, field_written, all_written}
 use Rattle.integers.proofs.Buffers.{to_end}
@@ -67,28 +65,17 @@ unfolding number_value
 value_plain [] w e = absurd (omega (arith, number_some [] w))
 value_plain (b ∷ t) w e = rw (w, ne_eqb b 0x2D e)
 
--- ---- the fields from a place on
+-- ---- the fields with their places
 
-module _ (fs : List (List ℕ)) (k : ℕ) where
-  abbrev at : List ℕ
-  at = get_or fs k []
-
-  -- the field k is as it should be
-  abbrev pub is_written : Bool
-  is_written = field_written at || (eqb k 3 && eqb (length at) 1 && eqb (get_or at 0 0) 0x3F)
-
-  written_next : k < length fs → all_written k (drop k fs) ≡ (is_written && all_written (k + 1) (drop (k + 1) fs))
-  unfolding all_written
-  written_next h = rw (drop-cons fs k [] h, add-one k)
-
-written_from : (fs : List (List ℕ)) (k n : ℕ) → k + n ≡ length fs → all_written k (drop k fs) ≡ list_all (is_written fs) (range_with_len k n)
-unfolding all_written
-written_from fs k zero e = rw (drop_of_length-le fs {i = k} (omega arith))
-written_from fs k (suc n) e = written_next fs k (omega arith) ∙ ap (λ (t : Bool). is_written fs k && t) (written_from fs (k + 1) n (omega arith))
+-- a field, behind its place, is as it should be
+abbrev pub is_written : ℕ × List ℕ → Bool
+is_written p = field_written p.1 || (eqb p.0 3 && eqb (length p.1) 1 && eqb (get_or p.1 0 0) 0x3F)
 
 -- all of them, one by one
-pub written_each : (fs : List (List ℕ)) {n : ℕ} → n ≡ length fs → all_written 0 fs ≡ list_all (is_written fs) (range_with_len 0 n)
-written_each fs e = written_from fs 0 _ (omega arith)
+pub written_each : (k : ℕ) (fs : List (List ℕ)) → all_written k fs ≡ list_all is_written (enumerate_from k fs)
+unfolding all_written
+written_each k [] = refl
+written_each k (f ∷ fs) = ap (λ (t : Bool). is_written (k, f) && t) (written_each (k + 1) fs)
 
 -- ---- the value of a text from what the code has of its size
 

@@ -5,8 +5,6 @@ ghost use Rattle.setup_line.specs.SetupLine.{fields_of, decimal_value};
 ghost use Rattle.rehearsal.specs.RehearsalLine.{digits_written, number_written, field_written, number_value, nearest, value_at, axes_at, readings_in, values_in, all_written, rehearsal_of};
 
 use made_datagram::Values;
-use std::error::Error;
-use std::fmt;
 
 // Why a line says nothing: it has over 512 bytes; it has neither 25 nor 39 fields; a field is no whole number.
 #[derive(Clone, Copy, Debug, PartialEq, Eq)]
@@ -15,18 +13,6 @@ pub enum Fault {
     OtherCount,
     NoNumber,
 }
-
-impl fmt::Display for Fault {
-    fn fmt<W: fmt::Write>(&self, f: &mut fmt::Formatter<W>) -> fmt::Result {
-        f.write_str(match self {
-            Fault::TooLong => "longer than 512 bytes",
-            Fault::OtherCount => "neither 25 nor 39 fields",
-            Fault::NoNumber => "a field is no whole number",
-        })
-    }
-}
-
-impl Error for Fault {}
 
 fn digits_written(text: &[u8]) -> bool
     ensures { result ≡ digits_written text.now }
@@ -65,14 +51,12 @@ fn is_unknown(text: &[u8], k: usize) -> bool
 }
 
 // Whether each of the fields of a line is written as it should be.
-fn all_written(line: &[u8], count: usize) -> bool
-    requires { count ≡ length (fields_of line.now) }
+fn all_written(line: &[u8]) -> bool
     ensures { result ≡ all_written 0 (fields_of line.now) }
 {
-    (0..count).all(|k| {
-        let text = setup_line::field(line, k);
-        field_written(text) | is_unknown(text, k)
-    })
+    line.split(|b| *b == b',')
+        .enumerate()
+        .all(|(k, text)| field_written(text) | is_unknown(text, k))
 }
 
 // Whether a line says what a datagram is to carry.
@@ -87,7 +71,7 @@ pub fn judge_line(line: &[u8]) -> Result<(), Fault>
     if !((count == 25) | (count == 39)) {
         return Err(Fault::OtherCount);
     }
-    if !all_written(line, count) {
+    if !all_written(line) {
         return Err(Fault::NoNumber);
     }
     Ok(())

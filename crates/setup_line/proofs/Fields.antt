@@ -14,7 +14,7 @@ front : (b : ℕ) (fs : List (List ℕ)) → in_front b fs ≡ onto_first b fs
 front b [] = refl
 front b (f ∷ fs) = refl
 
-fields_parts : (line : List ℕ) → fields_of line ≡ slice_split (λ b. eqb b 0x2C) line
+pub fields_parts : (line : List ℕ) → fields_of line ≡ slice_split (λ b. eqb b 0x2C) line
 unfolding fields_of
 fields_parts [] = refl
 fields_parts (b ∷ line) = rw (fields_parts line, front b (slice_split (λ b. eqb b 0x2C) line))

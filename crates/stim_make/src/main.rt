@@ -114,7 +114,12 @@ fn refuse_line<E: Write>(errors: &mut E, line: &[u8], number: u64, fault: Fault)
     requires { rehearsal_of line.now ≡ Err fault }
 {
     tell_line(errors, number);
-    let _ = writeln!(errors, "{fault}");
+    // the text and its 0x0A in one write
+    let _ = errors.write_all(match fault {
+        Fault::TooLong => b"longer than 512 bytes\n",
+        Fault::OtherCount => b"neither 25 nor 39 fields\n",
+        Fault::NoNumber => b"a field is no whole number\n",
+    });
 }
 
 // Writes out the datagrams of bytes behind a line's first ones. Only the contract speaks of setup, line and bytes.
