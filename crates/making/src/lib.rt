@@ -148,7 +148,8 @@ fn put_value(buffer: &mut [u8], at: usize, width: usize, z: i32) -> usize
     ensures { Put buffer.old at (value_bytes width z) buffer.new result }
 {
     let end = at + width;
-    buffer[at..end].copy_from_slice(&z.to_be_bytes()[4 - width..]);
+    let sent = z.to_be_bytes();
+    buffer[at..end].copy_from_slice(&sent[4 - width..]);
     end
 }
 
@@ -265,8 +266,9 @@ fn put_check(buffer: &mut [u8], at: usize) -> usize
     ensures { Put buffer.old at (in_bytes 4 (check32 (take at buffer.old))) buffer.new result }
 {
     let check = crc::crc32(&buffer[..at]);
+    let sent = check.to_be_bytes();
     let end = at + CHECK;
-    buffer[at..end].copy_from_slice(&check.to_be_bytes());
+    buffer[at..end].copy_from_slice(&sent);
     end
 }
 

@@ -84,7 +84,7 @@ fn check_right(place: usize, s: &[u8]) -> bool
 pub fn is_special(s: &[u8]) -> bool
     ensures { result ≡ is_special s.now }
 {
-    let Some(&first) = s.first() else {
+    let Some(&first) = s.get(0) else {
         return false;
     };
     if length_of(first) != Some(s.len()) {

@@ -36,8 +36,14 @@ loop-place-preserved c =
     let l = c.loop-place in
     (omega arith, last_first l.buffer c.args.at l.place l.left c.loop-place-test.true ∙ l.invariant.1)
 
+-- the digits written are compared with k, so that an edit of how many is refused by the number
 pub returns : goal.returns
 returns c =
     let l = c.loop-place in
     let a = c.args in
-    record { place = omega (arith, last_length a.k a.n); bytes = sym (ap (sets l.buffer a.at) (last_none (l.place - a.at) l.left (omega arith))) ∙ l.invariant.1 }
+    record {
+      place = omega (arith, last_length a.k a.n);
+      bytes = sym (ap (sets l.buffer a.at) (last_none (l.place - a.at) l.left (omega arith)))
+          ∙ l.invariant.1
+          ∙ ap (λ (j : ℕ). sets a.buffer.now a.at (last_digits j a.n)) (omega arith);
+    }

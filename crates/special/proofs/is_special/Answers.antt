@@ -8,14 +8,14 @@ use Rattle.special.proofs.Specials.{check_place, tested, length_told, length_oth
 use Rattle.special.proofs.is_special.Goals as goal
 
 pub returns-in_default : goal.returns-in_default
-returns-in_default c = let h = c.in_default.ensures.item in sym (none_special c.args.s.now (omega arith))
+returns-in_default c = let h = c.in_default.ensures.lookup in sym (none_special c.args.s.now (omega arith))
 
 pub returns-then-ne : goal.returns-then-ne
 returns-then-ne c =
     let s = c.args.s.now in
     let b = c.in-Some.field-0.now in
-    let some : 1 ≤ length s = let h = c.in-Some.ensures.item in omega arith in
-    let first : b ≡ get_or s 0 0 = c.in-Some.ensures.item.3.1 0 in
+    let some : 1 ≤ length s = let h = c.in-Some.ensures.lookup in omega arith in
+    let first : b ≡ get_or s 0 0 = c.in-Some.ensures.lookup.3.1 0 in
     let other = length_other b (length s) some (rw c.length_of.ensures at c.if-ne.ensures) in
     sym (other_length s (rw first at other))
 
@@ -23,7 +23,7 @@ pub ending_right-requires : goal.ending_right-requires
 ending_right-requires c =
     let s = c.args.s.now in
     let b = c.in-Some.field-0.now in
-    let some : 1 ≤ length s = let h = c.in-Some.ensures.item in omega arith in
+    let some : 1 ≤ length s = let h = c.in-Some.ensures.lookup in omega arith in
     let long : length s ≡ special_length b = length_told b (length s) (rw c.length_of.ensures at c.if-ne.ensures) in
     let place : c.check_place-place.result ≡ check_place b = c.check_place-place.ensures ∙ ap (λ k. 1 + sum (fields_of k)) c.kind_of.ensures in
     omega (arith, place, place_within b (length s) some long)
@@ -32,7 +32,7 @@ pub check_right-requires : goal.check_right-requires
 check_right-requires c =
     let s = c.args.s.now in
     let b = c.in-Some.field-0.now in
-    let some : 1 ≤ length s = let h = c.in-Some.ensures.item in omega arith in
+    let some : 1 ≤ length s = let h = c.in-Some.ensures.lookup in omega arith in
     let long : length s ≡ special_length b = length_told b (length s) (rw c.length_of.ensures at c.if-ne.ensures) in
     let place : c.check_place-place.result ≡ check_place b = c.check_place-place.ensures ∙ ap (λ k. 1 + sum (fields_of k)) c.kind_of.ensures in
     omega (arith, place, place_within b (length s) some long)
@@ -41,8 +41,8 @@ pub returns-then-ending_right : goal.returns-then-ending_right
 returns-then-ending_right c =
     let s = c.args.s.now in
     let b = c.in-Some.field-0.now in
-    let some : 1 ≤ length s = let h = c.in-Some.ensures.item in omega arith in
-    let first : b ≡ get_or s 0 0 = c.in-Some.ensures.item.3.1 0 in
+    let some : 1 ≤ length s = let h = c.in-Some.ensures.lookup in omega arith in
+    let first : b ≡ get_or s 0 0 = c.in-Some.ensures.lookup.3.1 0 in
     let long : length s ≡ special_length b = length_told b (length s) (rw c.length_of.ensures at c.if-ne.ensures) in
     let place : c.check_place-place.result ≡ check_place b = c.check_place-place.ensures ∙ ap (λ k. 1 + sum (fields_of k)) c.kind_of.ensures in
     rw (tested s some (rw first at long), ← first, ← place, ← c.ending_right.ensures, c.if-ending_right.true) c.check_right.ensures
@@ -51,8 +51,8 @@ pub returns-else-ending_right : goal.returns-else-ending_right
 returns-else-ending_right c =
     let s = c.args.s.now in
     let b = c.in-Some.field-0.now in
-    let some : 1 ≤ length s = let h = c.in-Some.ensures.item in omega arith in
-    let first : b ≡ get_or s 0 0 = c.in-Some.ensures.item.3.1 0 in
+    let some : 1 ≤ length s = let h = c.in-Some.ensures.lookup in omega arith in
+    let first : b ≡ get_or s 0 0 = c.in-Some.ensures.lookup.3.1 0 in
     let long : length s ≡ special_length b = length_told b (length s) (rw c.length_of.ensures at c.if-ne.ensures) in
     let place : c.check_place-place.result ≡ check_place b = c.check_place-place.ensures ∙ ap (λ k. 1 + sum (fields_of k)) c.kind_of.ensures in
     rw (tested s some (rw first at long), ← first, ← place, ← c.ending_right.ensures, c.if-ending_right.false)
