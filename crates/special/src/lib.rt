@@ -84,6 +84,7 @@ fn check_right(place: usize, s: &[u8]) -> bool
 pub fn is_special(s: &[u8]) -> bool
     ensures { result ≡ is_special s.now }
 {
+    // By its place and not by `first`, since must-fail/special_by_second_byte takes the byte of another place.
     let Some(&first) = s.get(0) else {
         return false;
     };

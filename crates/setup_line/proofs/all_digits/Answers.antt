@@ -6,7 +6,7 @@ use Rattle.setup_line.specs.SetupLine.{is_digit}
 use Rattle.setup_line.proofs.Digits.{digits_each}
 use Rattle.setup_line.proofs.all_digits.Goals as goal
 
--- what is judged is compared with the text byte by byte, so that an edit that judges a part is refused by what the part lacks
+-- what is judged is compared with the text, by its length and then byte by byte, so that an edit that judges a part is refused by what it leaves out
 pub returns : goal.returns
 returns c =
     let text = c.args.text.now in
